@@ -1,0 +1,4 @@
+pub mod Place
+pub mod Quote
+pub mod Utf16
+pub mod Fault

@@ -1,0 +1,53 @@
+-- Where no count rose, what is to be answered is answered, or memory was wanting.
+use Rattle.std.proofs.Common.{◌≡◌, ◌⊎◌, inl, inr, ℕ, List, [], Option, Some, None, refl, sym, ap, ◌∙◌}
+use Rattle.play.specs.declared.outcome.End.{End}
+use Rattle.play.specs.declared.outcome.End.TheVariants as end
+use Rattle.dl_ports.specs.Files.{Files}
+use Rattle.js_tree.specs.Tree.{Script}
+use Rattle.play.specs.Played.{Answer, Answered, Gives, Lacks, Refuses, played_page, for_page_file}
+use Rattle.play.specs.Headline.{PutsBackTo, ShowsOriginal}
+use Rattle.play.proofs.Headlines.{played_shows}
+use Rattle.play.specs.Answers.{Names}
+use Rattle.doloto_app.specs.declared.status.Status.{Status}
+use Rattle.doloto_app.specs.declared.status.Status.TheVariants.{Ended, Words, Refused, OutOfSteps, ReadFault, WriteFault, OutOfMemory, Missing}
+use Rattle.doloto_app.specs.declared.status.Refusal.TheVariants.{First}
+use Rattle.doloto_app.specs.Ends.{Taken, Ends, WritesOriginal, status_of_end}
+
+same_end : {a : Answer} {r q : List ℕ} {d e : End} → a ≡ Gives r d → a ≡ Gives q e → status_of_end d ≡ status_of_end e
+same_end h k = let s = sym h ∙ k in cc
+
+pub is_complete : (r : Answered) (asked asked_now : Names) (taken taken_now : Taken) (result : Status) (report : List ℕ) (e : End) → Ends r asked asked_now taken taken_now result → r.answer ≡ Gives report e
+    → (result ≡ ReadFault → ⊥) → (result ≡ WriteFault → ⊥) → (result ≡ status_of_end e) ⊎ (result ≡ OutOfMemory)
+is_complete r asked asked_now taken taken_now Ended report e h a f w = inl (same_end h.answer_is a)
+is_complete r asked asked_now taken taken_now (Words fault) report e h a f w = absurd h
+is_complete r asked asked_now taken taken_now (Refused (First file)) report e h a f w = let s = sym h.0 ∙ a in cc
+is_complete r asked asked_now taken taken_now OutOfSteps report e h a f w = inl (same_end h.answer_is a)
+is_complete r asked asked_now taken taken_now ReadFault report e h a f w = absurd (f refl)
+is_complete r asked asked_now taken taken_now WriteFault report e h a f w = absurd (w refl)
+is_complete r asked asked_now taken taken_now OutOfMemory report e h a f w = inr refl
+is_complete r asked asked_now taken taken_now (Missing name) report e h a f w = let s = sym h.0 ∙ a in cc
+
+page_shows : (files : Files) (folder name : List ℕ) (n : ℕ) (script : Script) → PutsBackTo files folder script → (report : List ℕ) (e : End) → (played_page files folder name n).answer ≡ Gives report e → ShowsOriginal report e script n
+page_shows files folder name n script p report e h = by (files name) h
+  where
+    by : (o : Option (List ℕ)) → (for_page_file files folder name n o).answer ≡ Gives report e → ShowsOriginal report e script n
+    by None h = cc
+    by (Some page) h = played_shows files folder page n script p report e h
+
+-- what is written is a report that shows the original
+pub writes_original : (files : Files) (folder name : List ℕ) (n : ℕ) (script : Script) (asked asked_now : Names) (taken taken_now : Taken) (result : Status) → PutsBackTo files folder script → Ends (played_page files folder name n) asked asked_now taken taken_now result → WritesOriginal taken taken_now script n result
+writes_original files folder name n script asked asked_now taken taken_now Ended p h = record { report = h.report; written = h.written; shows = page_shows files folder name n script p h.report end.Ended h.answer_is }
+writes_original files folder name n script asked asked_now taken taken_now (Words fault) p h = tt
+writes_original files folder name n script asked asked_now taken taken_now (Refused refusal) p h = tt
+writes_original files folder name n script asked asked_now taken taken_now OutOfSteps p h = record { report = h.report; written = h.written; shows = page_shows files folder name n script p h.report end.OutOfSteps h.answer_is }
+writes_original files folder name n script asked asked_now taken taken_now ReadFault p h = tt
+writes_original files folder name n script asked asked_now taken taken_now WriteFault p h = tt
+writes_original files folder name n script asked asked_now taken taken_now OutOfMemory p h = tt
+writes_original files folder name n script asked asked_now taken taken_now (Missing missing) p h = tt
+
+pub same_folder : (o : Option (List ℕ × List ℕ)) (a b c d : List ℕ) → o ≡ Some (a, b) → o ≡ Some (c, d) → a ≡ c
+same_folder o a b c d h k = ap first (sym h ∙ k)
+  where
+    first : Option (List ℕ × List ℕ) → List ℕ
+    first None = []
+    first (Some p) = p.0

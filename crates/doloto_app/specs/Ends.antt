@@ -1,0 +1,91 @@
+-- How a command ends, over what it is to answer.
+use Rattle.std.specs.Prelude.{◌≡◌, ◌⊎◌, ℕ, Bool, true, false, List, Option, Some, None}
+use Rattle.dl_ports.specs.Streams.{and_more, WritesPart}
+use Rattle.play.specs.declared.outcome.End.{End}
+use Rattle.play.specs.declared.outcome.End.TheVariants as end
+use Rattle.play.specs.declared.outcome.FirstError.{FirstError}
+use Rattle.play.specs.declared.outcome.FirstError.TheVariants as error
+use Rattle.js_tree.specs.Tree.{Script}
+use Rattle.play.specs.Headline.{ShowsOriginal}
+use Rattle.play.specs.Played.{Answered, Gives, Lacks, Refuses}
+use Rattle.play.specs.Answers.{Names, and_names, AsksFront}
+use Rattle.doloto_app.specs.declared.status.Status.{Status}
+use Rattle.doloto_app.specs.declared.status.Status.TheVariants.{Ended, Words, Refused, OutOfSteps, ReadFault, WriteFault, OutOfMemory, Missing}
+use Rattle.doloto_app.specs.declared.status.Refusal.TheVariants.{First}
+
+-- the numbers of the program's ends
+abbrev pub number_of : Status → ℕ
+number_of Ended = 0
+number_of (Words fault) = 1
+number_of (Refused refusal) = 2
+number_of OutOfSteps = 3
+number_of ReadFault = 6
+number_of WriteFault = 7
+number_of OutOfMemory = 8
+number_of (Missing name) = 10
+
+-- what a sink has taken, where told
+abbrev pub Taken : Type 0
+Taken = Option (List ℕ)
+
+-- the whole report was written, and its end is this one
+pub record Reported (r : Answered) (asked asked_now : Names) (taken taken_now : Taken) (e : End) : Type 0 where
+  pub report : List ℕ
+  pub answer_is : r.answer ≡ Gives report e
+  pub asked_is : asked_now ≡ and_names asked r.asked
+  pub written : taken_now ≡ and_more taken report
+
+-- a front of the report was written
+pub record Broken (r : Answered) (asked asked_now : Names) (taken taken_now : Taken) : Type 0 where
+  pub report : List ℕ
+  pub e : End
+  pub answer_is : r.answer ≡ Gives report e
+  pub asked_is : asked_now ≡ and_names asked r.asked
+  pub written : WritesPart taken report taken_now
+
+-- a status has its cause in what is to be answered, and says what was asked and written
+abbrev pub Ends : Answered → Names → Names → Taken → Taken → Status → Type 0
+Ends r asked asked_now taken taken_now Ended = Reported r asked asked_now taken taken_now end.Ended
+Ends r asked asked_now taken taken_now (Words fault) = ⊥
+Ends r asked asked_now taken taken_now (Refused (First file)) = (r.answer ≡ Refuses file) × (asked_now ≡ and_names asked r.asked) × (taken_now ≡ taken)
+Ends r asked asked_now taken taken_now OutOfSteps = Reported r asked asked_now taken taken_now end.OutOfSteps
+Ends r asked asked_now taken taken_now ReadFault = AsksFront asked asked_now r.asked × (taken_now ≡ taken)
+Ends r asked asked_now taken taken_now WriteFault = Broken r asked asked_now taken taken_now
+Ends r asked asked_now taken taken_now OutOfMemory = (AsksFront asked asked_now r.asked × (taken_now ≡ taken)) ⊎ Broken r asked asked_now taken taken_now
+Ends r asked asked_now taken taken_now (Missing name) = (r.answer ≡ Lacks name) × (asked_now ≡ and_names asked r.asked) × (taken_now ≡ taken)
+
+-- the status where there is no report
+abbrev pub status_of : FirstError → Status
+status_of error.ReadFault = ReadFault
+status_of (error.Missing name) = Missing name
+status_of (error.First file) = Refused (First file)
+status_of error.OutOfMemory = OutOfMemory
+
+-- after a refusal, a missing file or a fault of the store nothing was put, whether or not the store tells its files
+abbrev pub MayPut : Status → Taken → Taken → Type 0
+MayPut (Words fault) taken taken_now = taken_now ≡ taken
+MayPut (Refused refusal) taken taken_now = taken_now ≡ taken
+MayPut ReadFault taken taken_now = taken_now ≡ taken
+MayPut (Missing name) taken taken_now = taken_now ≡ taken
+MayPut _ taken taken_now = Unit {0}
+
+-- whether the words were refused
+abbrev pub is_words : Status → Bool
+is_words (Words fault) = true
+is_words _ = false
+
+-- the status of a report's end
+abbrev pub status_of_end : End → Status
+status_of_end end.Ended = Ended
+status_of_end end.OutOfSteps = OutOfSteps
+
+-- the headline: the report that was written shows the calls of this script's original run under n steps
+pub record Writes (taken taken_now : Taken) (e : End) (script : Script) (n : ℕ) : Type 0 where
+  pub report : List ℕ
+  pub written : taken_now ≡ and_more taken report
+  pub shows : ShowsOriginal report e script n
+
+abbrev pub WritesOriginal : Taken → Taken → Script → ℕ → Status → Type 0
+WritesOriginal taken taken_now script n Ended = Writes taken taken_now end.Ended script n
+WritesOriginal taken taken_now script n OutOfSteps = Writes taken taken_now end.OutOfSteps script n
+WritesOriginal taken taken_now script n _ = Unit {0}

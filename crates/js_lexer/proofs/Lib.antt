@@ -1,0 +1,16 @@
+pub mod Fronts
+pub mod Runs
+pub mod Comments
+pub mod Strings
+pub mod Numbers
+pub mod Bytes
+pub mod Within
+pub mod Stands
+pub mod Placing
+pub mod Going
+pub mod OneAnswer
+pub mod Longest
+pub mod PieceLaws
+pub mod OnlyPiece
+pub mod OneCut
+pub mod Names

@@ -1,0 +1,9 @@
+pub mod Characters
+pub mod Words
+pub mod Marks
+pub mod Fronts
+pub mod Tokens
+pub mod Position
+pub mod Names
+pub mod Laws
+pub mod Pieces

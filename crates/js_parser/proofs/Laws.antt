@@ -1,0 +1,171 @@
+-- What `read_script` and `read_cluster` read is of the grammar and has the text, and each text of the grammar is read.
+use Rattle.std.proofs.Common.{inl, inr, ◌≡◌, ℕ, zero, suc, ◌+◌, ◌≤◌, List, [], ◌∷◌, ◌++◌, Option, Some, None, refl, ap, sym, ◌∙◌, subst, append_assoc, arith, length, length-append}
+use Rattle.std.specs.Prelude.{◌⊎◌, All, codes}
+use Rattle.std.specs.List.{flat_map}
+use Rattle.std.specs.Fmt.{decimal}
+use Rattle.std.proofs.lemmas.List.{append-nil}
+use Rattle.js_parser.specs.declared.first.FirstStatement.{FirstStatement}
+use Rattle.js_parser.specs.declared.first.FirstItem.{FirstItem}
+use Rattle.js_parser.specs.declared.first.FirstScript.{FirstScript}
+use Rattle.js_parser.specs.declared.first.FirstEntry.{FirstEntry}
+use Rattle.js_parser.specs.First.{IsItem, IsEntry, statement_text, script_text, entry_text, cluster_text}
+use Rattle.js_parser.specs.Reader.{Found, Reader, and_then, pure, ◌>>=◌, ◌>>◌, skip, ended, number, many, statements, items, script, entry, entries, whole, read_script, read_cluster}
+use Rattle.js_parser.proofs.Bytes.{chosen_parts, then_parts, same_parts}
+use Rattle.js_parser.proofs.Numbers.{number_sound, number_again}
+use Rattle.js_parser.proofs.Joined.{Reads, carried, skipped, skips, many_sound, whole_list}
+use Rattle.js_parser.proofs.Grammar.{closed_text, statements_reads}
+use Rattle.js_parser.proofs.Scripts.{items_reads}
+
+ended_sound : (bs r : List ℕ) → ended bs ≡ Some (tt, r) → [] ++ r ≡ bs
+unfolding ended
+ended_sound [] r e = sym (same_parts tt tt [] r e).1
+ended_sound (b ∷ bs) r e = cc
+
+at_end : (bs r : List ℕ) → ended bs ≡ Some (tt, r) → (bs ≡ []) × (r ≡ [])
+unfolding ended
+at_end [] r e = (refl, sym (same_parts tt tt [] r e).1)
+at_end (b ∷ bs) r e = cc
+
+ended_again : ended [] ≡ Some (tt, [])
+unfolding ended
+ended_again = refl
+
+not_ended : (bs : List ℕ) → 1 ≤ length bs → ended bs ≡ None
+unfolding ended
+not_ended [] h = absurd (omega arith)
+not_ended (b ∷ bs) h = refl
+
+-- ---- scripts
+
+abbrev script_of : List FirstItem → FirstScript
+script_of is = record { items = is }
+
+script_sound : (bs rest : List ℕ) (s : FirstScript) → script bs ≡ Some (s, rest) → All IsItem s.items × (script_text s ≡ bs)
+unfolding script
+script_sound bs rest s e =
+    let p = then_parts (items bs) (λ is. ended >> pure (script_of is)) (s, rest) e in
+    let q = then_parts (ended p.0.1) (λ _. pure (script_of p.0.0)) (s, rest) p.2 in
+    let last = at_end p.0.1 q.0.1 q.1 in
+    let w = items_reads.sound bs p.0.1 p.0.0 p.1 in
+    let text : script_text (script_of p.0.0) ≡ bs = sym (append-nil (script_text (script_of p.0.0))) ∙ ap (λ v. script_text (script_of p.0.0) ++ v) (sym last.0) ∙ w.1 in
+    let same = same_parts (script_of p.0.0) s q.0.1 rest q.2 in
+    subst (λ s. All IsItem s.items × (script_text s ≡ bs)) same.0 (w.0, text)
+
+script_again : (s : FirstScript) → All IsItem s.items → script (script_text s) ≡ Some (s, [])
+unfolding script
+script_again s a =
+    let read : items (script_text s) ≡ Some (s.items, []) = ap items (sym (append-nil (script_text s))) ∙ items_reads.again s.items [] a in
+    rw (read, ended_again)
+
+abbrev paired : {A : Type 0} → List ℕ → Option A → Found A
+paired r (Some x) = Some (x, r)
+paired r None = None
+
+whole_parts : {A : Type 0} (o : Found A) (x : A) → whole o ≡ Some x → (r : List ℕ) × (o ≡ Some (x, r))
+whole_parts (Some p) x e = (p.1, ap (paired p.1) e)
+whole_parts None x e = cc
+
+pub read_script_sound : (bs : List ℕ) (s : FirstScript) → read_script bs ≡ Some s → All IsItem s.items × (script_text s ≡ bs)
+unfolding read_script
+read_script_sound bs s e = let h = whole_parts (script bs) s e in script_sound bs h.0 s h.1
+
+pub read_script_text : (s : FirstScript) → All IsItem s.items → read_script (script_text s) ≡ Some s
+unfolding read_script
+read_script_text s a = ap whole (script_again s a)
+
+-- a script with this text is the one that is read
+pub read_script_again : (bs : List ℕ) (s : FirstScript) → All IsItem s.items → script_text s ≡ bs → read_script bs ≡ Some s
+read_script_again bs s a e = ap read_script (sym e) ∙ read_script_text s a
+
+-- ---- cluster files
+
+abbrev entry_of : ℕ → List FirstStatement → FirstEntry
+entry_of k ss = record { number = k; body = ss }
+
+abbrev after_body : ℕ → List FirstStatement → Reader FirstEntry
+after_body k ss = pure (entry_of k ss)
+
+abbrev after_number : ℕ → Reader FirstEntry
+after_number k = statements >>= (λ ss. skip (codes ")\n") >> after_body k ss)
+
+entry_parts : (d a ss m r : List ℕ) → (d ++ (a ++ (ss ++ (125 ∷ m)))) ++ r ≡ d ++ (a ++ ((ss ++ 125 ∷ []) ++ (m ++ r)))
+entry_parts d a ss m r =
+    let one = append_assoc d (a ++ (ss ++ (125 ∷ m))) r in
+    let two = append_assoc a (ss ++ (125 ∷ m)) r in
+    let three = append_assoc ss (125 ∷ m) r in
+    let four = append_assoc ss (125 ∷ []) (m ++ r) in
+    one ∙ ap (λ v. d ++ v) (two ∙ ap (λ v. a ++ v) (three ∙ sym four))
+
+entry_sound : (bs rest : List ℕ) (x : FirstEntry) → entry bs ≡ Some (x, rest) → IsEntry x × (entry_text x ++ rest ≡ bs)
+unfolding entry
+entry_sound bs rest x e =
+    let h = skipped number (codes " (function(){") after_number bs (x, rest) e in
+    let m = skipped statements (codes ")\n") (after_body h.0) h.1 (x, rest) h.3 in
+    let n = number_sound bs (codes " (function(){" ++ h.1) h.0 h.2 in
+    let w = statements_reads.sound h.1 (codes ")\n" ++ m.1) m.0 m.2 in
+    let text : entry_text (entry_of h.0 m.0) ++ m.1 ≡ bs = entry_parts (decimal h.0) (codes " (function(){") (flat_map statement_text m.0) (codes ")\n") m.1 ∙ ap (λ v. decimal h.0 ++ (codes " (function(){" ++ v)) w.1 ∙ n.1 in
+    carried (λ x rest. IsEntry x × (entry_text x ++ rest ≡ bs)) (entry_of h.0 m.0) x m.1 rest m.3 ((n.0, w.0), text)
+
+entry_again : (x : FirstEntry) (rest : List ℕ) → IsEntry x → entry (entry_text x ++ rest) ≡ Some (x, rest)
+unfolding entry
+entry_again x rest h =
+    let mid = closed_text x.body ++ (codes ")\n" ++ rest) in
+    let bs = decimal x.number ++ (codes " (function(){" ++ mid) in
+    ap entry (entry_parts (decimal x.number) (codes " (function(){") (flat_map statement_text x.body) (codes ")\n") rest)
+    ∙ skips number (codes " (function(){") after_number bs mid x.number (number_again x.number 32 (codes "(function(){" ++ mid) h.0 refl)
+    ∙ skips statements (codes ")\n") (after_body x.number) mid rest x.body (statements_reads.again x.body (codes ")\n" ++ rest) h.1)
+
+entry_reads : Reads IsEntry entry_text entry
+entry_reads = record { sound = entry_sound; again = entry_again }
+
+entry_some : (x : FirstEntry) → 1 ≤ length (entry_text x)
+entry_some x = omega (arith, length-append (decimal x.number) (codes " (function(){" ++ (flat_map statement_text x.body ++ codes "})\n")))
+
+entry_not_ended : (x : FirstEntry) (r : List ℕ) → IsEntry x → ended (entry_text x ++ r) ≡ None
+entry_not_ended x r h = not_ended (entry_text x ++ r) (omega (arith, entry_some x, length-append (entry_text x) r))
+
+entries_sound : (bs rest : List ℕ) (xs : List FirstEntry) → entries bs ≡ Some (xs, rest) → All IsEntry xs × (cluster_text xs ++ rest ≡ bs)
+unfolding entries
+entries_sound bs rest xs e =
+    let h = many_sound IsEntry entry_text entry entry_reads ended [] ended_sound (length bs + 1) [] bs xs rest e in
+    (subst (All IsEntry) (sym h.1) h.2, subst (λ v. cluster_text v ++ rest ≡ bs) (sym h.1) h.3)
+
+stop_by : (n : ℕ) (found : List FirstEntry) (bs : List ℕ) (xs : List FirstEntry) (r : List ℕ)
+    → ((x : FirstEntry) (rest : List ℕ) → many ended entry n (found ++ x ∷ []) rest ≡ Some (xs, r) → r ≡ [])
+    → ((r' : List ℕ) × (ended bs ≡ Some (tt, r')) × (pure found r' ≡ Some (xs, r))) ⊎ ((ended bs ≡ None) × (and_then (entry bs) (λ x. many ended entry n (found ++ x ∷ [])) ≡ Some (xs, r))) → r ≡ []
+stop_by n found bs xs r more (inl h) = sym (same_parts found xs h.0 r h.2).1 ∙ (at_end bs h.0 h.1).1
+stop_by n found bs xs r more (inr h) =
+    let p = then_parts (entry bs) (λ x. many ended entry n (found ++ x ∷ [])) (xs, r) h.1 in
+    more p.0.0 p.0.1 p.2
+
+entries_stop : (n : ℕ) (found : List FirstEntry) (bs : List ℕ) (xs : List FirstEntry) (r : List ℕ) → many ended entry n found bs ≡ Some (xs, r) → r ≡ []
+unfolding many
+entries_stop zero found bs xs r e = cc
+entries_stop (suc n) found bs xs r e =
+    stop_by n found bs xs r (λ x rest w. entries_stop n (found ++ x ∷ []) rest xs r w) (chosen_parts (ended bs) (pure found) (and_then (entry bs) (λ x. many ended entry n (found ++ x ∷ []))) (xs, r) e)
+
+entries_end : (bs r : List ℕ) (xs : List FirstEntry) → entries bs ≡ Some (xs, r) → r ≡ []
+unfolding entries
+entries_end bs r xs e = entries_stop (length bs + 1) [] bs xs r e
+
+entries_again : (xs : List FirstEntry) → All IsEntry xs → entries (cluster_text xs) ≡ Some (xs, [])
+unfolding entries
+entries_again xs a =
+    let list = whole_list IsEntry entry_text entry entry_reads ended [] ended_sound entry_not_ended entry_some xs [] a ended_again in
+    ap entries (sym (append-nil (cluster_text xs))) ∙ list
+
+pub read_cluster_sound : (bs : List ℕ) (xs : List FirstEntry) → read_cluster bs ≡ Some xs → All IsEntry xs × (cluster_text xs ≡ bs)
+unfolding read_cluster
+read_cluster_sound bs xs e =
+    let h = whole_parts (entries bs) xs e in
+    let w = entries_sound bs h.0 xs h.1 in
+    let none = entries_end bs h.0 xs h.1 in
+    (w.0, sym (append-nil (cluster_text xs)) ∙ ap (λ v. cluster_text xs ++ v) (sym none) ∙ w.1)
+
+pub read_cluster_text : (xs : List FirstEntry) → All IsEntry xs → read_cluster (cluster_text xs) ≡ Some xs
+unfolding read_cluster
+read_cluster_text xs a = ap whole (entries_again xs a)
+
+-- entries with this text are those that are read
+pub read_cluster_again : (bs : List ℕ) (xs : List FirstEntry) → All IsEntry xs → cluster_text xs ≡ bs → read_cluster bs ≡ Some xs
+read_cluster_again bs xs a e = ap read_cluster (sym e) ∙ read_cluster_text xs a

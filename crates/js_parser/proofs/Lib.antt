@@ -1,0 +1,9 @@
+pub mod Bytes
+pub mod Numbers
+pub mod Turns
+pub mod Joined
+pub mod Grammar
+pub mod Scripts
+pub mod Laws
+pub mod Results
+pub mod Trees

@@ -1,0 +1,5 @@
+use Rattle.js_parser.proofs.Laws.{read_script_text, read_script_sound}
+use Rattle.js_parser.proofs.first.parse.scripts_read_back.Goals as goal
+
+pub returns : goal.returns
+returns c = record { read = read_script_text; written = read_script_sound }

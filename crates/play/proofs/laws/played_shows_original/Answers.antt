@@ -1,0 +1,5 @@
+use Rattle.play.proofs.Headlines.{played_shows}
+use Rattle.play.proofs.laws.played_shows_original.Goals as goal
+
+pub returns : goal.returns
+returns c files folder page n original_script back report e h = played_shows files folder page n original_script back report e h

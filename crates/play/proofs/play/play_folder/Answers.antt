@@ -1,0 +1,36 @@
+use Rattle.std.proofs.Common.{◌≡◌, Option, None, Some, sym, ap, ◌∙◌, subst}
+use Rattle.dl_ports.specs.Files.{Files, and_name}
+use Rattle.play.specs.Site.{manifest_name}
+use Rattle.play.specs.ManifestReader.{read_manifest}
+use Rattle.play.specs.Played.{after_name, for_manifest, for_manifest_file}
+use Rattle.play.specs.Answers.{Meets, NeedFails}
+use Rattle.play.proofs.Runs.{after_meets, need_meets}
+use Rattle.play.proofs.play.play_folder.Goals as goal
+
+pub returns-in-Err-clause-meets : goal.returns-in-Err-clause-meets
+returns-in-Err-clause-meets g c files told =
+    let v = c.as_str.ensures.value in
+    let e = c.in-Ok.ensures in
+    let same : c.as_str.result.now ≡ manifest_name c.args.folder.now = cc in
+    need_meets (manifest_name c.args.folder.now) (g.S.Store.asked c.args.store.now) (g.S.Store.asked c.read_needed.new.store) files
+    (for_manifest_file files c.args.folder.now c.args.steps (files (manifest_name c.args.folder.now))) c.in-Err.e
+    (λ h. ap (for_manifest_file files c.args.folder.now c.args.steps) h)
+    (subst (λ name. NeedFails files name (g.S.Store.asked c.args.store.now) (g.S.Store.asked c.read_needed.new.store) c.in-Err.e) same (c.in-Err.ensures.refused files told))
+
+pub returns-clause-meets : goal.returns-clause-meets
+returns-clause-meets g c files told =
+    let v = c.as_str.ensures.value in
+    let e = c.in-Ok.ensures in
+    let same : c.as_str.result.now ≡ manifest_name c.args.folder.now = cc in
+    let found = c.in-Ok-read_needed.ensures.found files told in
+    let slice = c.as_slice.ensures.value in
+    let reads = c.in-Ok-read_manifest.ensures.reads in
+    let some = c.in-Some.is in
+    let read : read_manifest c.in-Ok-read_needed.bytes.items ≡ Some c.in-Some.manifest = cc in
+    let r = ap (for_manifest_file files c.args.folder.now c.args.steps) (ap files (sym same) ∙ found.0)
+    ∙ ap (for_manifest files c.args.folder.now c.args.steps) read in
+    after_meets (manifest_name c.args.folder.now) (g.S.Store.asked c.args.store.now) (g.S.Store.asked c.read_needed.new.store)
+    (for_manifest_file files c.args.folder.now c.args.steps (files (manifest_name c.args.folder.now)))
+    (g.S.Store.asked c.play_script.new.store) c.play_script.result (found.1 ∙ ap (and_name (g.S.Store.asked c.args.store.now)) same)
+    (subst (λ r. Meets r (g.S.Store.asked c.read_needed.new.store) (g.S.Store.asked c.play_script.new.store) c.play_script.result) (sym r)
+    (c.play_script.ensures.meets files (c.read_needed.ensures.same_files ∙ told)))

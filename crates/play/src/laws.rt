@@ -1,0 +1,45 @@
+//! Laws over the definitions that runs are played by: functions with empty bodies, whose contracts are the laws.
+
+ghost use Rattle.std.specs.Prelude.{◌≡◌, ◌+◌, ◌≤◌, ℕ, List, Option};
+ghost use Rattle.dl_ports.specs.Files.{Files};
+ghost use Rattle.js_parser.specs.declared.first.FirstItem.{FirstItem};
+ghost use Rattle.js_tree.specs.Tree.{Func, Script};
+ghost use Rattle.play.specs.declared.manifest.Manifest.{Manifest};
+ghost use Rattle.play.specs.declared.outcome.End.{End};
+ghost use Rattle.play.specs.Headline.{PutsBackTo, ShowsOriginal};
+ghost use Rattle.play.specs.Played.{Gives, played};
+ghost use Rattle.play.specs.Value.{Env};
+ghost use Rattle.play.specs.Program.{Node, Program, program};
+ghost use Rattle.play.specs.Run.{State, Stack, due, run};
+ghost use Rattle.play.specs.Laws.{IsCut, IsLate, Joined, mean, resume};
+ghost use Rattle.play.specs.PutBack.{PutsBack};
+ghost use Rattle.play.specs.Site.{entries as site_entries, site_tree, stub_numbers};
+
+/// A run under fewer steps is the run under more, up to where it ran out of steps.
+pub fn runs_grow()
+    ensures { (entries : ℕ → Option Func) (n m : ℕ) → n ≤ m → (p : Program) (ks : Stack) (s : State) → IsCut (run entries n p ks s) (run entries m p ks s) }
+{}
+
+/// Under a stack a node runs as it does alone, and what waits goes on from its end with the steps that are left.
+pub fn parts()
+    ensures { (entries : ℕ → Option Func) (node : Node) (env : Env) (s : State) (n : ℕ) (ks : Stack) → due entries n (program entries node env) ks s ≡ resume entries (n + s.steps) ks (mean entries node env s n) }
+{}
+
+/// The entries that a site's files give are late functions, as `written_runs` wants them.
+pub fn entries_are_late()
+    ensures { (files : Files) (folder : List ℕ) (m : Manifest) → IsLate (site_entries files folder m) }
+{}
+
+/// The written run of a site's script shows the marks of its original: a prefix of them under the same
+/// steps, all of them under 32 times the steps and 32 more, and each in time.
+pub fn written_runs()
+    ensures { (entries : ℕ → Option Func) → IsLate entries → (items : List FirstItem) (ns listed : List ℕ) (original_script : Script) → PutsBack entries listed (stub_numbers items) (site_tree ns items) original_script → Joined entries (site_tree ns items) original_script }
+{}
+
+/// The headline: what is played for a site whose files put back to a script shows that script's host calls and uncaught exceptions.
+///
+/// Where the run ended they are the original's under the same steps, and otherwise a front of them; and those of the original under m
+/// steps are a front of them, where 32 m + 32 steps were allowed.
+pub fn played_shows_original()
+    ensures { (files : Files) (folder page : List ℕ) (n : ℕ) (original_script : Script) → PutsBackTo files folder original_script → (report : List ℕ) (e : End) → (played files folder page n).answer ≡ Gives report e → ShowsOriginal report e original_script n }
+{}
