@@ -1,17 +1,18 @@
 -- Where no count rose, what is to be answered is answered, or memory was wanting.
-use Rattle.std.proofs.Common.{◌≡◌, ◌⊎◌, inl, inr, ℕ, List, [], Option, Some, None, refl, sym, ap, ◌∙◌}
+use Rattle.std.proofs.Common.{◌≡◌, ◌⊎◌, inl, inr, ℕ, List, [], Option, Some, None, refl, sym, ap, ◌∙◌, subst}
 use Rattle.play.specs.declared.outcome.End.{End}
 use Rattle.play.specs.declared.outcome.End.TheVariants as end
 use Rattle.dl_ports.specs.Files.{Files}
 use Rattle.js_tree.specs.Tree.{Script}
-use Rattle.play.specs.Played.{Answer, Answered, Gives, Lacks, Refuses, played_page, for_page_file}
+use Rattle.play.specs.Played.{Answer, Answered, Gives, played_page, for_page_file}
 use Rattle.play.specs.Headline.{PutsBackTo, ShowsOriginal}
-use Rattle.play.proofs.Headlines.{played_shows}
+use Rattle.play.specs.Laziness.{ShowsLoads}
+use Rattle.play.proofs.Headlines.{played_shows, played_loads}
 use Rattle.play.specs.Answers.{Names}
 use Rattle.doloto_app.specs.declared.status.Status.{Status}
 use Rattle.doloto_app.specs.declared.status.Status.TheVariants.{Ended, Words, Refused, OutOfSteps, ReadFault, WriteFault, OutOfMemory, Missing}
 use Rattle.doloto_app.specs.declared.status.Refusal.TheVariants.{First}
-use Rattle.doloto_app.specs.Ends.{Taken, Ends, WritesOriginal, status_of_end}
+use Rattle.doloto_app.specs.Ends.{Taken, Ends, WritesOriginal, WritesLoads, status_of_end}
 
 same_end : {a : Answer} {r q : List ℕ} {d e : End} → a ≡ Gives r d → a ≡ Gives q e → status_of_end d ≡ status_of_end e
 same_end h k = let s = sym h ∙ k in cc
@@ -34,16 +35,34 @@ page_shows files folder name n script p report e h = by (files name) h
     by None h = cc
     by (Some page) h = played_shows files folder page n script p report e h
 
--- what is written is a report that shows the original
-pub writes_original : (files : Files) (folder name : List ℕ) (n : ℕ) (script : Script) (asked asked_now : Names) (taken taken_now : Taken) (result : Status) → PutsBackTo files folder script → Ends (played_page files folder name n) asked asked_now taken taken_now result → WritesOriginal taken taken_now script n result
-writes_original files folder name n script asked asked_now taken taken_now Ended p h = record { report = h.report; written = h.written; shows = page_shows files folder name n script p h.report end.Ended h.answer_is }
-writes_original files folder name n script asked asked_now taken taken_now (Words fault) p h = tt
-writes_original files folder name n script asked asked_now taken taken_now (Refused refusal) p h = tt
-writes_original files folder name n script asked asked_now taken taken_now OutOfSteps p h = record { report = h.report; written = h.written; shows = page_shows files folder name n script p h.report end.OutOfSteps h.answer_is }
-writes_original files folder name n script asked asked_now taken taken_now ReadFault p h = tt
-writes_original files folder name n script asked asked_now taken taken_now WriteFault p h = tt
-writes_original files folder name n script asked asked_now taken taken_now OutOfMemory p h = tt
-writes_original files folder name n script asked asked_now taken taken_now (Missing missing) p h = tt
+page_loads : (files : Files) (folder name : List ℕ) (n : ℕ) (script : Script) (p : PutsBackTo files folder script) (report : List ℕ) (e : End) → (played_page files folder name n).answer ≡ Gives report e → ShowsLoads p.manifest report e script n
+page_loads files folder name n script p report e h = by (files name) h
+  where
+    by : (o : Option (List ℕ)) → (for_page_file files folder name n o).answer ≡ Gives report e → ShowsLoads p.manifest report e script n
+    by None h = cc
+    by (Some page) h = played_loads files folder page n script p report e h
+
+-- what is written is a report that shows the original, and its loads
+module _ (files : Files) (folder name : List ℕ) (n : ℕ) (script : Script) (asked asked_now : Names) (taken taken_now : Taken) where
+  pub writes_original : (result : Status) → PutsBackTo files folder script → Ends (played_page files folder name n) asked asked_now taken taken_now result → WritesOriginal taken taken_now script n result
+  writes_original Ended p h = record { report = h.report; written = h.written; shows = page_shows files folder name n script p h.report end.Ended h.answer_is }
+  writes_original (Words fault) p h = tt
+  writes_original (Refused refusal) p h = tt
+  writes_original OutOfSteps p h = record { report = h.report; written = h.written; shows = page_shows files folder name n script p h.report end.OutOfSteps h.answer_is }
+  writes_original ReadFault p h = tt
+  writes_original WriteFault p h = tt
+  writes_original OutOfMemory p h = tt
+  writes_original (Missing missing) p h = tt
+
+  pub writes_loads : (result : Status) (p : PutsBackTo files folder script) → Ends (played_page files folder name n) asked asked_now taken taken_now result → WritesLoads taken taken_now p.manifest script n result
+  writes_loads Ended p h = record { report = h.report; written = h.written; shows = page_loads files folder name n script p h.report end.Ended h.answer_is }
+  writes_loads (Words fault) p h = tt
+  writes_loads (Refused refusal) p h = tt
+  writes_loads OutOfSteps p h = record { report = h.report; written = h.written; shows = page_loads files folder name n script p h.report end.OutOfSteps h.answer_is }
+  writes_loads ReadFault p h = tt
+  writes_loads WriteFault p h = tt
+  writes_loads OutOfMemory p h = tt
+  writes_loads (Missing missing) p h = tt
 
 pub same_folder : (o : Option (List ℕ × List ℕ)) (a b c d : List ℕ) → o ≡ Some (a, b) → o ≡ Some (c, d) → a ≡ c
 same_folder o a b c d h k = ap first (sym h ∙ k)
@@ -51,3 +70,9 @@ same_folder o a b c d h k = ap first (sym h ∙ k)
     first : Option (List ℕ × List ℕ) → List ℕ
     first None = []
     first (Some p) = p.0
+
+-- the same for a folder that is the same
+pub loads_in : (taken taken_now : Taken) (result : Status) (files : Files) (script : Script) (here there : List ℕ) → here ≡ there → ((p : PutsBackTo files there script) → WritesLoads taken taken_now p.manifest script 10000000 result)
+    → (p : PutsBackTo files here script) → WritesLoads taken taken_now p.manifest script 10000000 result
+loads_in taken taken_now result files script here there e f p =
+    (subst (λ folder. (p : PutsBackTo files folder script) → WritesLoads taken taken_now p.manifest script 10000000 result) (sym e) f) p

@@ -1,12 +1,14 @@
 -- How a command ends, over what it is to answer.
-use Rattle.std.specs.Prelude.{◌≡◌, ◌⊎◌, ℕ, Bool, true, false, List, Option, Some, None}
+use Rattle.std.specs.Prelude.{◌≡◌, ◌⊎◌, ℕ, Bool, true, false, List, Option}
 use Rattle.dl_ports.specs.Streams.{and_more, WritesPart}
 use Rattle.play.specs.declared.outcome.End.{End}
 use Rattle.play.specs.declared.outcome.End.TheVariants as end
 use Rattle.play.specs.declared.outcome.FirstError.{FirstError}
 use Rattle.play.specs.declared.outcome.FirstError.TheVariants as error
 use Rattle.js_tree.specs.Tree.{Script}
+use Rattle.play.specs.declared.manifest.Manifest.{Manifest}
 use Rattle.play.specs.Headline.{ShowsOriginal}
+use Rattle.play.specs.Laziness.{ShowsLoads}
 use Rattle.play.specs.Played.{Answered, Gives, Lacks, Refuses}
 use Rattle.play.specs.Answers.{Names, and_names, AsksFront}
 use Rattle.doloto_app.specs.declared.status.Status.{Status}
@@ -79,13 +81,20 @@ abbrev pub status_of_end : End → Status
 status_of_end end.Ended = Ended
 status_of_end end.OutOfSteps = OutOfSteps
 
--- the headline: the report that was written shows the calls of this script's original run under n steps
-pub record Writes (taken taken_now : Taken) (e : End) (script : Script) (n : ℕ) : Type 0 where
+-- a report was written of which this holds
+pub record Writes (taken taken_now : Taken) (Is : List ℕ → Type 0) : Type 0 where
   pub report : List ℕ
   pub written : taken_now ≡ and_more taken report
-  pub shows : ShowsOriginal report e script n
+  pub shows : Is report
 
+-- the headline: the report that was written shows the calls of this script's original run under n steps
 abbrev pub WritesOriginal : Taken → Taken → Script → ℕ → Status → Type 0
-WritesOriginal taken taken_now script n Ended = Writes taken taken_now end.Ended script n
-WritesOriginal taken taken_now script n OutOfSteps = Writes taken taken_now end.OutOfSteps script n
+WritesOriginal taken taken_now script n Ended = Writes taken taken_now (λ report. ShowsOriginal report end.Ended script n)
+WritesOriginal taken taken_now script n OutOfSteps = Writes taken taken_now (λ report. ShowsOriginal report end.OutOfSteps script n)
 WritesOriginal taken taken_now script n _ = Unit {0}
+
+-- laziness: its lines are those of the original's marks, as clusters come
+abbrev pub WritesLoads : Taken → Taken → Manifest → Script → ℕ → Status → Type 0
+WritesLoads taken taken_now m script n Ended = Writes taken taken_now (λ report. ShowsLoads m report end.Ended script n)
+WritesLoads taken taken_now m script n OutOfSteps = Writes taken taken_now (λ report. ShowsLoads m report end.OutOfSteps script n)
+WritesLoads taken taken_now m script n _ = Unit {0}

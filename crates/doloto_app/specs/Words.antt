@@ -1,5 +1,5 @@
 -- The words of a command.
-use Rattle.std.specs.Prelude.{ℕ, List, [], ◌∷◌, Option, Some, None, Bool, true, false, not, nat_eq, ◌&&◌, cond, codes}
+use Rattle.std.specs.Prelude.{ℕ, List, [], ◌∷◌, Option, Some, None, Bool, false, not, nat_eq, ◌&&◌, cond, codes}
 use Rattle.std.specs.Str.{bytes_eq}
 
 -- a path is neither empty nor begun with `-`

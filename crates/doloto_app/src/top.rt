@@ -7,7 +7,7 @@ ghost use Rattle.play.specs.Headline.{PutsBackTo};
 ghost use Rattle.play.specs.Played.{Gives, played_page};
 ghost use Rattle.play.specs.declared.outcome.End.{End as AnEnd};
 ghost use Rattle.doloto_app.specs.Words.{paths};
-ghost use Rattle.doloto_app.specs.Ends.{Ends, is_words, MayPut, WritesOriginal, status_of, status_of_end};
+ghost use Rattle.doloto_app.specs.Ends.{Ends, is_words, MayPut, WritesLoads, WritesOriginal, status_of, status_of_end};
 
 use crate::status::{Refusal, Status};
 use crate::words::{WordFault, play_paths};
@@ -63,7 +63,8 @@ fn play_out<S: Store, K: Sink>(
 /// Runs the command of the words, over these ports.
 ///
 /// `play SITE PAGE` reads the page and the files of the site, and writes the report to `out` once it is whole. Other words are refused.
-/// Where the site's files put back to a script, the report shows that script's host calls and uncaught exceptions.
+/// Where the site's files put back to a script, the report shows that script's host calls and uncaught exceptions, and waits for each
+/// cluster where that script first enters one of its functions.
 #[tactic(auto, using(crate::proofs::Whole::writes_original))]
 pub fn doloto_top<S: Store, K: Sink>(
     alloc: Global,
@@ -76,6 +77,7 @@ pub fn doloto_top<S: Store, K: Sink>(
     ensures complete { (site page : List ℕ) → paths (map string_bytes words.now) ≡ Some (site, page) → (files : Files) → S.files store.old ≡ Some files → (report : List ℕ) (e : AnEnd) → (played_page files site page 10000000).answer ≡ Gives report e → (Rose (S.faults store.old) (S.faults store.new) → ⊥) → (Rose (K.faults out.old) (K.faults out.new) → ⊥) → (result ≡ status_of_end e) ⊎ (result ≡ Status.OutOfMemory) }
     ensures plays { (site page : List ℕ) → paths (map string_bytes words.now) ≡ Some (site, page) → (files : Files) → S.files store.old ≡ Some files → Ends (played_page files site page 10000000) (S.asked store.old) (S.asked store.new) (K.written out.old) (K.written out.new) result }
     ensures headline { (site page : List ℕ) → paths (map string_bytes words.now) ≡ Some (site, page) → (files : Files) → S.files store.old ≡ Some files → (script : Script) → PutsBackTo files site script → WritesOriginal (K.written out.old) (K.written out.new) script 10000000 result }
+    ensures laziness { (site page : List ℕ) → paths (map string_bytes words.now) ≡ Some (site, page) → (files : Files) → S.files store.old ≡ Some files → (script : Script) (back : PutsBackTo files site script) → WritesLoads (K.written out.old) (K.written out.new) back.manifest script 10000000 result }
     ensures same_files { S.files store.new ≡ S.files store.old }
     ensures same_write_faults { S.write_faults store.new ≡ S.write_faults store.old }
     ensures later { (S.faults store.old ≤ S.faults store.new) × (K.faults out.old ≤ K.faults out.new) }

@@ -1,15 +1,12 @@
 -- A cluster that is needed comes: what is still to come of the answer before and after.
-use Rattle.std.proofs.Common.{◌≡◌, ℕ, zero, suc, ◌+◌, ◌<◌, Bool, true, false, cond, List, [], ◌∷◌, ◌++◌, length, map, Option, Some, None, refl, sym, ap, ◌∙◌, subst, arith, append_assoc}
+use Rattle.std.proofs.Common.{◌≡◌, ℕ, zero, suc, Bool, true, false, cond, List, [], ◌∷◌, ◌++◌, length, Option, Some, None, refl, sym, ap, ◌∙◌}
 use Rattle.std.specs.Prelude.{nat_eq, slice_get, slice_set}
 use Rattle.std.specs.Option.{option_map}
 use Rattle.dl_ports.specs.Files.{Files}
-use Rattle.js_tree.specs.Tree.{Func}
 use Rattle.js_parser.specs.declared.first.FirstEntry.{FirstEntry}
 use Rattle.play.specs.declared.manifest.ClusterLine.{ClusterLine}
-use Rattle.play.specs.declared.manifest.Manifest.{Manifest}
 use Rattle.play.specs.declared.table.Table.{Table}
 use Rattle.play.specs.declared.table.Entry.{Entry}
-use Rattle.play.specs.declared.machine.Machine.{Machine}
 use Rattle.play.specs.declared.outcome.FirstFile.TheVariants as first
 use Rattle.play.specs.Run.{Entered, Trace, Say}
 use Rattle.play.specs.Site.{line_of, ClusterFile, Absent, Refused, Accepted, cluster_name, cluster_file}
@@ -21,7 +18,7 @@ use Rattle.play.specs.Walk.{RunEnd, Ended, RanOut, Broke, walk, end_of, request,
 use Rattle.play.specs.Report.{line_text}
 use Rattle.play.specs.Played
 use Rattle.play.specs.Played.{Answered, Lacks, Refuses, reads, cluster_of, cluster_names, cluster_number, file_by, file_of}
-use Rattle.play.specs.Machine.{status, statuses, loader_of, answer_after, arrived_report, left_for, with_entries, IsSound, trace_of, left_of, NeedsNext}
+use Rattle.play.specs.Machine.{status, statuses, loader_of, answer_after, arrived_report, left_for, with_entries, IsSound}
 use Rattle.play.proofs.Lefts.{answer_line, above, same_number, other_number, mapped_at, status_at, left_here}
 use Rattle.play.proofs.Tables.{none_some, some_one}
 

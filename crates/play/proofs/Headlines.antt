@@ -1,9 +1,8 @@
 -- The report of a site that puts back shows the original's calls.
-use Rattle.std.proofs.Common.{◌≡◌, ◌+◌, ◌*◌, ◌≤◌, ℕ, List, [], ◌∷◌, ◌++◌, map, Option, Some, None, Bool, true, false, refl, sym, ap, ◌∙◌, subst, ◌⊎◌, inl, inr}
+use Rattle.std.proofs.Common.{◌≡◌, ℕ, List, [], ◌∷◌, ◌++◌, map, Option, Some, None, Bool, true, false, refl, sym, ap, ◌∙◌, subst, ◌⊎◌, inl, inr}
 use Rattle.std.specs.Prelude.{cond, if◌then◌else◌, Result, Ok, Err, IfOk}
 use Rattle.dl_ports.specs.Files.{Files}
 use Rattle.js_tree.specs.Tree.{Script}
-use Rattle.play.specs.declared.manifest.Manifest.{Manifest}
 use Rattle.play.specs.declared.outcome.End.{End}
 use Rattle.play.specs.declared.outcome.Outcome.{Outcome}
 use Rattle.play.specs.declared.outcome.FirstError.{FirstError}
@@ -11,18 +10,20 @@ use Rattle.play.specs.Answers.{Names, Meets}
 use Rattle.play.specs.declared.outcome.End.TheVariants as end
 use Rattle.play.specs.declared.outcome.FirstFile.TheVariants as first
 use Rattle.play.specs.Run.{Mark, Called, Uncaught, Idle, Entered, Needed, Trace, Say, End as Finish, OutOfSteps, IsStuck}
-use Rattle.play.specs.Page.{written, original}
-use Rattle.play.specs.Site.{ClusterFile, Absent, Refused, Accepted, manifest_name, script_name, entries, site_tree}
+use Rattle.play.specs.Page.{original}
+use Rattle.play.specs.Site.{ClusterFile, Absent, Refused, Accepted, entries, site_tree}
 use Rattle.play.specs.Loader
 use Rattle.play.specs.Loader.{Line, CallLine, UncaughtLine, IdleLine, EventLine, WaitLine, AskLine, HereLine, LostLine, CutLine, Moved, step, fills, effect, needed, arrived, status_of, moves, ask_all, to_ask}
 use Rattle.play.specs.Walk
 use Rattle.play.specs.Walk.{RunEnd, walk, end_of, moved_by, request, requested, arrives}
 use Rattle.play.specs.Manifest.{cluster_numbers}
 use Rattle.play.specs.Report.{lines_text}
-use Rattle.play.specs.Played.{Answer, Gives, Lacks, Refuses, Broken, Answered, Ending, Reports, LacksFile, RefusesFile, with_line, comes, after_line, reads, answer_of, cluster_of, file_of, site_run, site_lines, site_played, after_name, for_script, for_script_file, for_manifest, for_manifest_file, for_folder, played, is_page}
+use Rattle.play.specs.Played.{Gives, Refuses, Ending, Reports, LacksFile, RefusesFile, with_line, comes, reads, answer_of, cluster_of, file_of, site_run, site_lines, site_played, for_script, for_script_file, for_manifest, for_manifest_file, for_folder, played, is_page}
 use Rattle.play.specs.Laws
 use Rattle.play.specs.Laws.{seen, with_mark, ending, IsPrefix, Joined}
 use Rattle.play.specs.Headline.{call_line, calls, call_mark, marked_calls, original_calls, PutsBackTo, end_text, ShowsOriginal}
+use Rattle.play.specs.Laziness.{original_lines, ShowsLoads, lazy_lines}
+use Rattle.play.proofs.Lazy.{site_lazy, lazy_prefix}
 use Rattle.play.proofs.sim.Lates.{entries_late}
 use Rattle.play.proofs.sim.Back.{script_back}
 use Rattle.play.proofs.sim.Whole.{joined}
@@ -179,7 +180,21 @@ read_whole folder file lines x report e h = by (reads_all file lines x)
     by (inl q) = whole_of folder lines x report e (ap (answer_of folder) (sym q) ∙ h)
     by (inr q) = absurd (given folder (reads file lines x) report e q h)
 
--- ---- the headline
+prefix_between : {A : Type 0} {xs ys zs ws : List A} → xs ≡ zs → ys ≡ ws → IsPrefix xs ys → IsPrefix zs ws
+prefix_between e f p = record { rest = p.rest; is = ap (λ l. l ++ p.rest) (sym e) ∙ (p.is ∙ f) }
+
+-- ---- the headline, and laziness
+
+script_joined : (files : Files) (folder : List ℕ) (script : Script) (p : PutsBackTo files folder script) → Joined (entries files folder p.manifest) (site_tree p.manifest.plain p.items) script
+script_joined files folder script p =
+    let es = entries files folder p.manifest in
+    joined es script (site_tree p.manifest.plain p.items) (script_back es (entries_late files folder p.manifest) p.manifest.plain p.items script p.back.original_is)
+
+pub originals_are_lazy : (files : Files) (folder : List ℕ) (script : Script) (p : PutsBackTo files folder script) (n : ℕ) → original_lines p.manifest script n ≡ lazy_lines (cluster_of p.manifest) [] (seen (original script n))
+originals_are_lazy files folder script p n = site_lazy p.manifest (original script n) ((script_joined files folder script p).needs n).1
+
+ended_ran : Laws.Ended ≡ Laws.RanOut → ⊥
+ended_ran q = cc
 
 module _ (files : Files) (folder : List ℕ) (n : ℕ) (script : Script) (p : PutsBackTo files folder script) (report : List ℕ) (e : End) where
   trace : Trace
@@ -196,8 +211,7 @@ module _ (files : Files) (folder : List ℕ) (n : ℕ) (script : Script) (p : Pu
   pub folder_shows : (for_folder files folder n).answer ≡ Gives report e → ShowsOriginal report e script n
   unfolding trace
   folder_shows h =
-      let es = entries files folder p.manifest in
-      let j = joined es script (site_tree p.manifest.plain p.items) (script_back es (entries_late files folder p.manifest) p.manifest.plain p.items script p.back.original_is) in
+      let j = script_joined files folder script p in
       let w = read_whole folder (file_of files folder p.manifest) (site_lines p.manifest trace) (end_of trace) report e (sym unfolded ∙ h) in
       let c = walk_calls (cluster_of p.manifest) (Loader.fresh (cluster_numbers p.manifest.clusters)) trace in
       record {
@@ -208,9 +222,21 @@ module _ (files : Files) (folder : List ℕ) (n : ℕ) (script : Script) (p : Pu
         within = subst (λ x. IsPrefix x (original_calls script n)) (sym c) (prefix_calls (seen trace) (seen (original script n)) (j.within n));
         reached = λ m le. subst (λ x. IsPrefix (original_calls script m) x) (sym c) (prefix_calls (seen (original script m)) (seen trace) (j.reached m n le));
       }
-    where
-      ended_ran : Laws.Ended ≡ Laws.RanOut → ⊥
-      ended_ran q = cc
+
+  pub folder_loads : (for_folder files folder n).answer ≡ Gives report e → ShowsLoads p.manifest report e script n
+  unfolding trace
+  folder_loads h =
+      let j = script_joined files folder script p in
+      let w = read_whole folder (file_of files folder p.manifest) (site_lines p.manifest trace) (end_of trace) report e (sym unfolded ∙ h) in
+      let lines_are = site_lazy p.manifest trace (j.needs n).0 in
+      record {
+        lines = site_lines p.manifest trace;
+        steps = w.steps;
+        report_is = w.report_is;
+        whole = λ q. lines_are ∙ (ap (lazy_lines (cluster_of p.manifest) []) (j.whole n (λ r. ended_ran (sym (w.ends q) ∙ r))).0 ∙ sym (originals_are_lazy files folder script p n));
+        within = prefix_between (sym lines_are) (sym (originals_are_lazy files folder script p n)) (lazy_prefix (cluster_of p.manifest) [] (seen trace) (seen (original script n)) (j.within n));
+        reached = λ m le. prefix_between (sym (originals_are_lazy files folder script p m)) (sym lines_are) (lazy_prefix (cluster_of p.manifest) [] (seen (original script m)) (seen trace) (j.reached m n le));
+      }
 
 pub played_shows : (files : Files) (folder page : List ℕ) (n : ℕ) (script : Script) → PutsBackTo files folder script → (report : List ℕ) (e : End) → (played files folder page n).answer ≡ Gives report e → ShowsOriginal report e script n
 played_shows files folder page n script p report e h = by (is_page page) refl h
@@ -219,6 +245,17 @@ played_shows files folder page n script p report e h = by (is_page page) refl h
     by true q h = folder_shows files folder n script p report e h
     by false q h = cc
 
+pub played_loads : (files : Files) (folder page : List ℕ) (n : ℕ) (script : Script) (p : PutsBackTo files folder script) (report : List ℕ) (e : End) → (played files folder page n).answer ≡ Gives report e → ShowsLoads p.manifest report e script n
+played_loads files folder page n script p report e h = by (is_page page) refl h
+  where
+    by : (b : Bool) → is_page page ≡ b → (if b then for_folder files folder n else (record { answer = Refuses first.Page; asked = [] })).answer ≡ Gives report e → ShowsLoads p.manifest report e script n
+    by true q h = folder_loads files folder n script p report e h
+    by false q h = cc
+
 pub folder_result : (files : Files) (folder : List ℕ) (n : ℕ) (script : Script) → PutsBackTo files folder script → (before now : Names) (result : Result Outcome FirstError) → Meets (for_folder files folder n) before now result → IfOk result (λ o. ShowsOriginal o.report o.end script n)
 folder_result files folder n script p before now (Ok o) m = folder_shows files folder n script p o.report o.end m.0
 folder_result files folder n script p before now (Err x) m = tt
+
+pub folder_result_loads : (files : Files) (folder : List ℕ) (n : ℕ) (script : Script) (p : PutsBackTo files folder script) (before now : Names) (result : Result Outcome FirstError) → Meets (for_folder files folder n) before now result → IfOk result (λ o. ShowsLoads p.manifest o.report o.end script n)
+folder_result_loads files folder n script p before now (Ok o) m = folder_loads files folder n script p o.report o.end m.0
+folder_result_loads files folder n script p before now (Err x) m = tt

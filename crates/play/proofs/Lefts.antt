@@ -1,5 +1,5 @@
 -- What is still to come of an answer, mark by mark.
-use Rattle.std.proofs.Common.{◌≡◌, ℕ, zero, suc, ◌+◌, ◌-◌, ◌<◌, ◌≤◌, List, [], ◌∷◌, ◌++◌, length, map, take, filter, Option, Some, None, Bool, true, false, cond, refl, sym, ap, ◌∙◌, arith, append_assoc, eq-eqb}
+use Rattle.std.proofs.Common.{◌≡◌, ℕ, zero, suc, ◌-◌, ◌<◌, List, [], ◌∷◌, ◌++◌, map, take, filter, Option, Some, None, Bool, true, false, cond, refl, sym, ap, ◌∙◌, arith, append_assoc, eq-eqb}
 use Rattle.std.specs.Prelude.{nat_eq, slice_get, count_by}
 use Rattle.std.specs.Option.{option_map}
 use Rattle.std.proofs.lemmas.Bool.{eqb-true}
@@ -9,14 +9,14 @@ use Rattle.play.specs.declared.table.Table.{Table}
 use Rattle.play.specs.declared.table.Entry.{Entry}
 use Rattle.play.specs.declared.outcome.End.TheVariants as end
 use Rattle.play.specs.Value.{Shown, Outcome}
-use Rattle.play.specs.Run.{State, Mark, Called, Uncaught, Idle, Entered, Needed, Trace, Say, End, OutOfSteps}
-use Rattle.play.specs.Site.{line_of, ClusterFile, cluster_name}
+use Rattle.play.specs.Run.{State, Called, Uncaught, Idle, Entered, Needed, Trace, Say, End}
+use Rattle.play.specs.Site.{line_of, ClusterFile}
 use Rattle.play.specs.Manifest.{Rises, cluster_numbers}
 use Rattle.play.specs.Loader
 use Rattle.play.specs.Loader.{Line, CallLine, UncaughtLine, IdleLine, AskLine, HereLine, status_of, to_ask, is_absent, is_asked}
-use Rattle.play.specs.Walk.{RunEnd, Ended, RanOut, Broke, walk, end_of, request, requested}
+use Rattle.play.specs.Walk.{Ended, RanOut, Broke, walk, end_of, request, requested}
 use Rattle.play.specs.Report.{line_text, lines_text, ended_text, out_of_steps_text}
-use Rattle.play.specs.Played.{Answer, Answered, Gives, Ending, Reports, LacksFile, RefusesFile, with_line, reads, cluster_of, cluster_names, cluster_number}
+use Rattle.play.specs.Played.{Answered, Gives, Ending, Reports, LacksFile, RefusesFile, with_line, reads, cluster_of, cluster_names, cluster_number}
 use Rattle.play.specs.Machine.{status, statuses, loader_of, answer_after, left_for}
 use Rattle.play.proofs.Steps.{RanOutAt}
 

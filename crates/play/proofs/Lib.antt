@@ -19,4 +19,5 @@ pub mod Runs
 pub mod Started
 pub mod Functions
 pub mod sim
+pub mod Lazy
 pub mod Headlines

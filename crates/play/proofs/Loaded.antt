@@ -1,12 +1,11 @@
 -- A table with the entries of one more cluster.
-use Rattle.std.proofs.Common.{◌≡◌, ◌≢◌, ℕ, zero, suc, ◌+◌, ◌<◌, ◌≤◌, Bool, true, false, cond, List, [], ◌∷◌, ◌++◌, length, map, Option, Some, None, get_or, refl, sym, ap, ◌∙◌, subst, arith}
+use Rattle.std.proofs.Common.{◌≡◌, ℕ, zero, suc, ◌+◌, ◌<◌, Bool, true, false, cond, List, [], ◌∷◌, ◌++◌, length, map, Option, Some, None, get_or, refl, sym, ap, ◌∙◌, subst, arith}
 use Rattle.std.specs.Prelude.{nat_eq, ◌||◌, ◌&&◌, slice_get, slice_set, All}
 use Rattle.std.specs.Str.{bytes_eq}
 use Rattle.std.specs.List.{list_any, flat_map, IsDistinct, AllByRecursion}
 use Rattle.std.proofs.lemmas.Bool.{eqb-true, eqb-false}
 use Rattle.std.proofs.Math.ListN.{length-set}
 use Rattle.dl_ports.specs.Files.{Files}
-use Rattle.js_tree.specs.Tree.{Func}
 use Rattle.js_parser.specs.declared.first.FirstEntry.{FirstEntry}
 use Rattle.js_parser.specs.Reader.{read_cluster}
 use Rattle.play.specs.declared.manifest.ClusterLine.{ClusterLine}
@@ -14,11 +13,11 @@ use Rattle.play.specs.declared.manifest.Manifest.{Manifest}
 use Rattle.play.specs.declared.table.Table.{Table}
 use Rattle.play.specs.declared.table.Entry.{Entry}
 use Rattle.play.specs.declared.machine.Machine.{Machine}
-use Rattle.play.specs.Manifest.{Rises, IsManifest, IsClusterLine, all_numbers}
-use Rattle.play.specs.Site.{line_of, ClusterFile, Absent, Refused, Accepted, listed_as, cluster_of_bytes, cluster_file, cluster_name, late_function, entry_among, entry_in, entry_by, entries}
+use Rattle.play.specs.Manifest.{Rises, IsManifest, IsClusterLine}
+use Rattle.play.specs.Site.{line_of, Refused, Accepted, listed_as, cluster_of_bytes, cluster_file, cluster_name, late_function, entry_among, entry_in, entry_by, entries}
 use Rattle.play.specs.Tables.{loaded_entry}
-use Rattle.play.specs.Machine.{entry_func, IsSound, Agrees, NeedsNext, with_entries}
-use Rattle.play.specs.Answers.{missing, OneMore, Fetches, SiteAgrees}
+use Rattle.play.specs.Machine.{entry_func, IsSound, NeedsNext, with_entries}
+use Rattle.play.specs.Answers.{missing, OneMore, SiteAgrees}
 use Rattle.play.proofs.Lefts.{same_number, other_number}
 use Rattle.play.proofs.Lists.{any_at}
 use Rattle.play.proofs.Tables.{none_some, some_one, within_got}

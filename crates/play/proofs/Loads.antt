@@ -1,22 +1,17 @@
 -- What the load of a cluster leaves of the answer.
-use Rattle.std.proofs.Common.{◌≡◌, ℕ, List, [], ◌∷◌, ◌++◌, length, take, map, Option, Some, None, refl, sym, ap, ◌∙◌, subst, ◌⊎◌, inl, inr}
-use Rattle.std.specs.Prelude.{slice_get, slice_set}
-use Rattle.std.specs.Option.{option_map}
+use Rattle.std.proofs.Common.{◌≡◌, ℕ, List, [], ◌∷◌, ◌++◌, Option, Some, None, refl, sym, ap, ◌∙◌, subst, ◌⊎◌, inl, inr}
 use Rattle.dl_ports.specs.Files.{Files, and_name}
 use Rattle.js_tree.specs.Tree.{Func}
-use Rattle.js_parser.specs.declared.first.FirstEntry.{FirstEntry}
-use Rattle.play.specs.declared.manifest.ClusterLine.{ClusterLine}
 use Rattle.play.specs.declared.table.Table.{Table}
 use Rattle.play.specs.declared.table.Entry.{Entry}
 use Rattle.play.specs.declared.machine.Machine.{Machine}
 use Rattle.play.specs.declared.outcome.FirstError.{FirstError}
 use Rattle.play.specs.declared.outcome.FirstError.TheVariants.{ReadFault, Missing, First, OutOfMemory}
-use Rattle.play.specs.Run.{Entered, Trace, Say}
+use Rattle.play.specs.Run.{Entered, Say}
 use Rattle.play.specs.Site.{ClusterFile, Absent, Refused, Accepted, cluster_name, cluster_file, entries}
 use Rattle.play.specs.Played.{Answered, Lacks, Refuses, after_name, file_of}
-use Rattle.play.specs.Tables.{loaded_entry}
-use Rattle.play.specs.Machine.{arrived_report, left_for, with_entries, IsSound, trace_of, left_of, NeedsNext}
-use Rattle.play.specs.Answers.{Names, and_names, AsksFront, ErrorMeets, Fetches, FetchFails, Loads, site_left, SiteAgrees}
+use Rattle.play.specs.Machine.{arrived_report, left_for, with_entries, IsSound, NeedsNext}
+use Rattle.play.specs.Answers.{Names, and_names, AsksFront, ErrorMeets, Fetches, FetchFails, Loads, site_left}
 use Rattle.play.proofs.Arrives.{file_is, left_absent, left_refused, left_arrived}
 use Rattle.play.proofs.Loaded.{agrees_more}
 

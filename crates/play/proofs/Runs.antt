@@ -1,5 +1,5 @@
 -- How the answer of a run is composed of its parts.
-use Rattle.std.proofs.Common.{◌≡◌, ℕ, zero, suc, ◌+◌, List, [], ◌∷◌, ◌++◌, length, take, Option, Some, None, refl, sym, ap, ◌∙◌, subst, ◌⊎◌, inl, inr, arith}
+use Rattle.std.proofs.Common.{◌≡◌, ℕ, suc, ◌+◌, List, [], ◌∷◌, ◌++◌, length, take, Some, None, refl, sym, ap, ◌∙◌, subst, arith}
 use Rattle.std.specs.Prelude.{Result, Ok, Err, IfOk, IfErr}
 use Rattle.dl_ports.specs.Files.{Files, and_name}
 use Rattle.play.specs.declared.table.Table.{Table}
@@ -9,10 +9,10 @@ use Rattle.play.specs.declared.outcome.End.{End}
 use Rattle.play.specs.declared.outcome.FirstError.{FirstError}
 use Rattle.play.specs.declared.outcome.FirstError.TheVariants.{ReadFault, Missing, First, OutOfMemory}
 use Rattle.play.specs.declared.outcome.FirstFile.{FirstFile}
-use Rattle.play.specs.Played.{Answer, Gives, Lacks, Refuses, Answered, after_name, file_of}
+use Rattle.play.specs.Played.{Gives, Lacks, Refuses, Answered, after_name, file_of}
 use Rattle.play.specs.Site.{entries}
 use Rattle.play.specs.Machine.{Keeps, Ends}
-use Rattle.play.specs.Answers.{Names, and_names, AsksFront, ErrorMeets, OutcomeMeets, Meets, NeedFails, Loads, Ahead, site_left, SiteAgrees}
+use Rattle.play.specs.Answers.{Names, and_names, AsksFront, ErrorMeets, Meets, NeedFails, Loads, Ahead, site_left, SiteAgrees}
 use Rattle.play.proofs.Loads.{front_none, one_name, front_one, front_either}
 
 -- ---- names

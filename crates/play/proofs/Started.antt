@@ -1,8 +1,7 @@
 -- A script that begins: what is to come for the machine is the whole answer.
-use Rattle.std.proofs.Common.{◌≡◌, ℕ, zero, suc, ◌+◌, List, [], ◌∷◌, ◌++◌, length, map, Option, Some, None, refl, sym, ap, ◌∙◌, subst, arith, false}
+use Rattle.std.proofs.Common.{◌≡◌, ℕ, zero, suc, ◌+◌, List, [], ◌∷◌, length, map, Some, None, refl, sym, ap, ◌∙◌, arith, false}
 use Rattle.std.specs.Prelude.{slice_get, replicate}
 use Rattle.dl_ports.specs.Files.{Files}
-use Rattle.js_tree.specs.Tree
 use Rattle.js_tree.specs.Tree.{Func}
 use Rattle.js_parser.specs.First.{statements_tree}
 use Rattle.js_parser.specs.declared.first.FirstItem.{FirstItem}
@@ -12,9 +11,8 @@ use Rattle.play.specs.declared.manifest.Manifest.{Manifest}
 use Rattle.play.specs.declared.table.Table.{Table}
 use Rattle.play.specs.declared.table.Entry.{Entry}
 use Rattle.play.specs.declared.clock.Clock.{Clock}
-use Rattle.play.specs.declared.machine.Machine.{Machine}
 use Rattle.play.specs.Value.{Env, global_env}
-use Rattle.play.specs.Program.{Program, statements, begin_statement, declared, after_script}
+use Rattle.play.specs.Program.{statements, begin_statement, declared, after_script}
 use Rattle.js_parser.specs.First.{statement_tree}
 use Rattle.play.specs.Run.{State, Trace, run}
 use Rattle.play.specs.Page.{written}
@@ -23,9 +21,9 @@ use Rattle.play.specs.Loader
 use Rattle.play.specs.Loader.{fresh}
 use Rattle.play.specs.Walk.{Ended, RanOut, Broke, walk, end_of}
 use Rattle.play.specs.Manifest.{cluster_numbers}
-use Rattle.play.specs.Played.{Answer, Answered, Ending, Reports, LacksFile, RefusesFile, reads, cluster_of, cluster_names, file_of, answer_of, for_script, site_run}
+use Rattle.play.specs.Played.{Answered, Ending, Reports, LacksFile, RefusesFile, reads, cluster_of, cluster_names, file_of, answer_of, for_script, site_run}
 use Rattle.play.specs.Tables.{statements_of, Builds}
-use Rattle.play.specs.Machine.{func_of, statuses, loader_of, answer_after, begun, trace_of, env_at, Agrees}
+use Rattle.play.specs.Machine.{func_of, statuses, answer_after, begun, trace_of}
 use Rattle.play.specs.Answers.{site_left, SiteAgrees}
 use Rattle.play.proofs.Tables.{none_some}
 

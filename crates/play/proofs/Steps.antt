@@ -1,5 +1,5 @@
 -- What each statement of the first grammar does, as equations between what is left of a run before it and after it.
-use Rattle.std.proofs.Common.{◌≡◌, ℕ, zero, suc, ◌+◌, ◌<◌, List, [], ◌∷◌, ◌++◌, Option, Some, None, Bool, true, false, cond, refl, sym, ap, ◌∙◌, arith}
+use Rattle.std.proofs.Common.{◌≡◌, ℕ, zero, suc, ◌+◌, ◌<◌, List, [], ◌∷◌, ◌++◌, Option, Some, None, Bool, true, false, cond, refl, ap, ◌∙◌, arith}
 use Rattle.std.specs.Prelude.{nat_eq, ◌&&◌}
 use Rattle.std.specs.Str.{bytes_eq}
 use Rattle.js_tree.specs.Tree
@@ -11,7 +11,7 @@ use Rattle.js_parser.specs.declared.first.FirstStatement.TheVariants.{Call, Out}
 use Rattle.play.specs.declared.table.Place.{Place}
 use Rattle.play.specs.declared.table.Frame.{Frame}
 use Rattle.play.specs.declared.table.Frame.TheVariants as frame
-use Rattle.play.specs.Value.{Value, Undefined, Text, Global, Host, HostCall, Apply, Closure, Error, NoValues, Values, Chain, GlobalScope, FunctionScope, Outcome, Normal, Returned, Thrown, Shown, ShownText, Env, shown, passed_with}
+use Rattle.play.specs.Value.{Value, Undefined, Host, Closure, Error, NoValues, GlobalScope, Normal, Thrown, ShownText, shown, passed_with}
 use Rattle.play.specs.Program
 use Rattle.play.specs.Program.{Program, Ret, on_value, after_statement, gives, returns, finish, after_script, call_found, call_property, late, statements}
 use Rattle.play.specs.Run.{State, Called, Uncaught, Idle, Entered, Needed, Trace, Say, End, OutOfSteps, Stack, Next, find, function_named, with_step, with_beat, with_error, with_passed, pop, due, run}

@@ -1,5 +1,5 @@
 -- Each turn of the machine leaves what is still to come as it was.
-use Rattle.std.proofs.Common.{◌≡◌, ℕ, zero, suc, ◌+◌, ◌<◌, ◌≤◌, List, [], ◌∷◌, ◌++◌, drop, Option, Some, None, refl, sym, ap, ◌∙◌, subst, arith}
+use Rattle.std.proofs.Common.{◌≡◌, ℕ, zero, suc, ◌+◌, ◌<◌, List, [], ◌∷◌, ◌++◌, drop, Option, Some, None, refl, sym, ap, ◌∙◌, subst, arith}
 use Rattle.std.specs.Prelude.{slice_get, map}
 use Rattle.js_tree.specs.Tree
 use Rattle.js_tree.specs.Tree.{Name, Func}
@@ -7,7 +7,6 @@ use Rattle.js_tree.specs.declared.tree.Role.TheVariants.{Late}
 use Rattle.js_parser.specs.First.{statements_tree, stub_tree, out_name}
 use Rattle.js_parser.specs.declared.first.FirstStatement.{FirstStatement}
 use Rattle.js_parser.specs.declared.first.FirstStatement.TheVariants.{Call, Out}
-use Rattle.play.specs.declared.manifest.ClusterLine.{ClusterLine}
 use Rattle.play.specs.declared.table.Table.{Table}
 use Rattle.play.specs.declared.table.Entry.{Entry}
 use Rattle.play.specs.declared.table.EntryPlace.{EntryPlace}
@@ -21,16 +20,16 @@ use Rattle.play.specs.declared.outcome.End.{End}
 use Rattle.play.specs.declared.outcome.End.TheVariants as end
 use Rattle.play.specs.Value
 use Rattle.play.specs.Value.{ShownText, ShownObject, Shown}
-use Rattle.play.specs.Program.{Program, Ret, statements, finish, on_value, after_statement, gives, returns}
-use Rattle.play.specs.Run.{State, Entered, Trace, Say, Stack, function_named, run}
-use Rattle.play.specs.Site.{ClusterFile, line_of}
+use Rattle.play.specs.Program.{Ret, statements, finish, on_value, after_statement, gives}
+use Rattle.play.specs.Run.{State, Trace, Stack, function_named, run}
+use Rattle.play.specs.Site.{ClusterFile}
 use Rattle.play.specs.Loader
 use Rattle.play.specs.Loader.{CallLine, UncaughtLine, IdleLine, status_of}
 use Rattle.play.specs.Report.{line_text, ended_text, out_of_steps_text}
 use Rattle.play.specs.Played.{Gives}
-use Rattle.play.specs.Machine.{func_of, entry_func, env_at, rest_program, stack, state_of, trace_at, statuses, left_for, IsSound, StubIs, Agrees, trace_of, left_of, Keeps, Ends, Halts, Turns, NeedsNext}
-use Rattle.play.specs.Calls.{IsCall, IsOut, PlainNamed, StubNamed, IsHere, HereNamed}
-use Rattle.play.proofs.Steps.{RanOutAt, stack_last, ends, leaves_call, leaves_late, call_out, call_unbound, call_bound_out, entry_state, below, call_plain, call_stub, out_out, out_is, below_late, stub_out_early, RanOutAfter, stub_out_late, stub_is}
+use Rattle.play.specs.Machine.{func_of, env_at, rest_program, stack, state_of, trace_at, statuses, left_for, IsSound, StubIs, Agrees, trace_of, left_of, Keeps, Ends, Halts, Turns, NeedsNext}
+use Rattle.play.specs.Calls.{IsCall, PlainNamed, StubNamed, HereNamed}
+use Rattle.play.proofs.Steps.{RanOutAt, stack_last, ends, leaves_call, leaves_late, call_out, call_unbound, call_bound_out, entry_state, below, call_plain, call_stub, out_out, out_is, below_late, stub_out_early, stub_out_late, stub_is}
 use Rattle.play.proofs.Lefts.{left_called, left_plain, left_here, left_needed, left_out, left_idle, left_uncaught, status_at}
 
 -- ---- the ends

@@ -113,4 +113,4 @@ pub record Joined (entries : ℕ → Option Func) (written_script original_scrip
   pub reached_end : (m n : ℕ) → 32 * m + 32 ≤ n → ending (original original_script m) ≢ RanOut → (ending (written entries written_script n) ≡ Ended) × (ending (original original_script m) ≡ Ended)
   -- a mark of the original at o steps stands in the written run at r steps
   pub timely : (m n i o r : ℕ) → slice_get (times (original original_script m)) i ≡ Some o → slice_get (times (written entries written_script n)) i ≡ Some r → (o ≤ r) × (r ≤ 32 * o + 32)
-  pub needs : (n : ℕ) → NeedsFollow (written entries written_script n)
+  pub needs : (n : ℕ) → NeedsFollow (written entries written_script n) × NeedsFollow (original original_script n)

@@ -16,4 +16,5 @@ pub mod Calls
 pub mod Tables
 pub mod Answers
 pub mod Laws
+pub mod Laziness
 pub mod Headline

@@ -1,5 +1,5 @@
 -- The loader: which clusters were asked for and which are here, and what each event does.
-use Rattle.std.specs.Prelude.{ℕ, ◌-◌, List, [], ◌∷◌, ◌++◌, length, map, filter, take, Option, Some, None, cond, nat_eq, Bool, true, false, count_by}
+use Rattle.std.specs.Prelude.{ℕ, ◌-◌, List, [], ◌∷◌, ◌++◌, map, filter, take, Option, Some, None, cond, nat_eq, Bool, true, false, count_by}
 use Rattle.play.specs.Value.{Shown}
 use Rattle.js_tree.specs.Tree.{Name}
 

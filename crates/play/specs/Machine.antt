@@ -12,7 +12,6 @@ use Rattle.play.specs.declared.table.Function.{Function}
 use Rattle.play.specs.declared.table.Entry.{Entry}
 use Rattle.play.specs.declared.table.EntryPlace.{EntryPlace}
 use Rattle.play.specs.declared.table.Table.{Table}
-use Rattle.play.specs.declared.table.Place.{Place}
 use Rattle.play.specs.declared.table.Frame.{Frame}
 use Rattle.play.specs.declared.table.Frame.TheVariants as frame
 use Rattle.play.specs.declared.machine.Machine.{Machine}
@@ -26,7 +25,7 @@ use Rattle.play.specs.Program.{Program, Ret, statements, on_value, after_stateme
 use Rattle.play.specs.Run.{Entered, State, Trace, Say, Stack, function_named, run}
 use Rattle.play.specs.Site.{line_of, ClusterFile, cluster_name}
 use Rattle.play.specs.Loader
-use Rattle.play.specs.Walk.{RunEnd, Ended, RanOut, Broke, walk, end_of}
+use Rattle.play.specs.Walk.{Ended, RanOut, Broke, walk, end_of}
 use Rattle.play.specs.Report.{line_text, lines_text, ended_text, out_of_steps_text}
 use Rattle.play.specs.declared.outcome.End.TheVariants as end
 use Rattle.play.specs.Played.{Answer, Gives, Lacks, Refuses, Broken, Answered, Ending, Reports, LacksFile, RefusesFile, reads, cluster_of, cluster_names}

@@ -7,7 +7,7 @@ use Rattle.js_tree.specs.Tree.{Name, Expr, Exprs, NoExprs, MoreExprs, Stmt, Stmt
 use Rattle.js_tree.specs.declared.tree.Role.{Role}
 use Rattle.js_tree.specs.declared.tree.Role.TheVariants.{Plain, Stub, Wrapper, Late}
 use Rattle.js_parser.specs.First.{out_name, apply_name}
-use Rattle.play.specs.Value.{Value, Undefined, Text, Global, Host, HostCall, Apply, Closure, Arguments, Error, values, items, Chain, FunctionScope, Outcome, Normal, Returned, Thrown, Env}
+use Rattle.play.specs.Value.{Value, Undefined, Text, Global, Host, HostCall, Apply, Closure, Arguments, values, items, Chain, FunctionScope, Outcome, Normal, Returned, Thrown, Env}
 
 -- what is begun with a step
 pub data Node : Type 0 where

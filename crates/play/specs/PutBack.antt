@@ -2,7 +2,6 @@
 use Rattle.std.specs.Prelude.{◌≡◌, ℕ, List, [], ◌∷◌, Option, Some, None, Bool, true, false, ◌&&◌, All, cond, nat_eq, count_by}
 use Rattle.std.specs.Option.{option_map}
 use Rattle.std.specs.Str.{bytes_eq}
-use Rattle.js_tree.specs.Tree
 use Rattle.js_tree.specs.Tree.{Name, Stmt, Stmts, NoStmts, MoreStmts, Func, Code, Declare, Script}
 use Rattle.js_tree.specs.Numbering.{IsNumbered}
 use Rattle.js_tree.specs.declared.tree.Role.{Role}

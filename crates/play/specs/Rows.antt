@@ -12,7 +12,7 @@ use Rattle.play.specs.PutBack.{back}
 use Rattle.js_parser.specs.First.{out_name}
 use Rattle.play.specs.Value.{ShownText, ShownObject}
 use Rattle.play.specs.Loader.{fresh, CallLine, UncaughtLine, IdleLine, WaitLine, AskLine, HereLine}
-use Rattle.play.specs.Walk.{RunEnd, Ended, end_of, walk}
+use Rattle.play.specs.Walk.{Ended, end_of, walk}
 
 abbrev pub items : List FirstItem
 items =

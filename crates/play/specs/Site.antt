@@ -1,5 +1,5 @@
 -- The site as its files give it: the manifest, the script's tree, and the entries of the clusters whose files are accepted.
-use Rattle.std.specs.Prelude.{ℕ, suc, List, [], ◌∷◌, ◌++◌, length, map, Option, Some, None, is_some, cond, nat_eq, Bool, true, false, ◌&&◌, codes}
+use Rattle.std.specs.Prelude.{ℕ, suc, List, [], ◌∷◌, ◌++◌, length, map, Option, Some, None, is_some, cond, nat_eq, Bool, ◌&&◌, codes}
 use Rattle.std.specs.Str.{bytes_eq}
 use Rattle.std.specs.List.{list_any, list_all}
 use Rattle.std.specs.Fmt.{decimal}
@@ -7,10 +7,8 @@ use Rattle.dl_ports.specs.Files.{Files}
 use Rattle.js_tree.specs.Tree
 use Rattle.js_tree.specs.declared.tree.Role.TheVariants.{Plain, Stub, Late}
 use Rattle.js_parser.specs.First.{statement_tree, statements_tree, stub_tree}
-use Rattle.js_parser.specs.declared.first.FirstStatement.{FirstStatement}
 use Rattle.js_parser.specs.declared.first.FirstBody.{FirstBody}
 use Rattle.js_parser.specs.declared.first.FirstBody.TheVariants as body
-use Rattle.js_parser.specs.declared.first.FirstFunction.{FirstFunction}
 use Rattle.js_parser.specs.declared.first.FirstItem.{FirstItem}
 use Rattle.js_parser.specs.declared.first.FirstItem.TheVariants as item
 use Rattle.js_parser.specs.declared.first.FirstEntry.{FirstEntry}

@@ -1,5 +1,5 @@
 -- How a table is made of a manifest and the items of its script.
-use Rattle.std.specs.Prelude.{◌≡◌, ℕ, List, [], ◌∷◌, None, length, map, replicate}
+use Rattle.std.specs.Prelude.{◌≡◌, List, [], ◌∷◌, None, length, map, replicate}
 use Rattle.js_parser.specs.declared.first.FirstStatement.{FirstStatement}
 use Rattle.js_parser.specs.declared.first.FirstItem.{FirstItem}
 use Rattle.js_parser.specs.declared.first.FirstItem.TheVariants as item

@@ -2,7 +2,7 @@
 --
 -- Functions, `arguments` and scopes are plain data here, since nothing in this grammar writes to one, compares two, or
 -- shows one. What can be shown has a number: an error that was thrown.
-use Rattle.std.specs.Prelude.{ℕ, suc, List, [], ◌∷◌, Bool, cond, nat_eq, Option}
+use Rattle.std.specs.Prelude.{ℕ, suc, List, [], ◌∷◌, cond, nat_eq}
 use Rattle.js_tree.specs.Tree.{Name, Func}
 
 mutual

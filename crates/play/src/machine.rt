@@ -168,7 +168,6 @@ impl Machine {
     }
 
     /// A host call with a text.
-    #[tactic(auto, using(crate::proofs::Turned::keeps_out, crate::proofs::Turned::out_runs_out))]
     fn out(&mut self, table: &Table) -> Result<Option<Halt>, AllocError>
         requires { IsOut self.old.place.rest }
         ensures turns { IfOk result (Turns table.now self.old self.new) }

@@ -6,6 +6,7 @@ ghost use Rattle.std.specs.List.{list_all};
 ghost use Rattle.play.specs.Played.{played, is_page, for_script, for_manifest, for_folder, played_page};
 ghost use Rattle.js_tree.specs.Tree.{Script};
 ghost use Rattle.play.specs.Headline.{PutsBackTo, ShowsOriginal};
+ghost use Rattle.play.specs.Laziness.{ShowsLoads};
 ghost use Rattle.play.specs.Manifest.{IsManifest};
 ghost use Rattle.play.specs.Tables.{statements_of};
 ghost use Rattle.play.specs.Answers.{Meets, ErrorMeets, NeedFails, Fetches, FetchFails, Loads, OneMore, SiteAgrees, site_left};
@@ -327,7 +328,8 @@ fn play_folder<S: Store>(
 ///
 /// Where the store's files are told, the result is the one of `played`, and the names asked of the store are its names, in its order:
 /// all of them where there is an outcome or a file is refused or missing, a front of them after a fault or want of memory. Where they
-/// put back to a script, the report shows that script's host calls and uncaught exceptions.
+/// put back to a script, the report shows that script's host calls and uncaught exceptions, and waits for each cluster where that
+/// script first enters one of its functions.
 pub fn play_first<S: Store>(
     alloc: Global,
     page: &[u8],
@@ -337,6 +339,7 @@ pub fn play_first<S: Store>(
 ) -> Result<Outcome, FirstError>
     ensures meets { (files : Files) → S.files store.old ≡ Some files → Meets (played files folder.now page.now steps) (S.asked store.old) (S.asked store.new) result }
     ensures headline { (files : Files) → S.files store.old ≡ Some files → (script : Script) → PutsBackTo files folder.now script → IfOk result (λ o. ShowsOriginal o.report o.end script steps) }
+    ensures laziness { (files : Files) → S.files store.old ≡ Some files → (script : Script) (back : PutsBackTo files folder.now script) → IfOk result (λ o. ShowsLoads back.manifest o.report o.end script steps) }
     ensures same_files { S.files store.new ≡ S.files store.old }
     ensures later { S.faults store.old ≤ S.faults store.new }
     ensures cause { IsErrOf result FirstError.ReadFault → Rose (S.faults store.old) (S.faults store.new) }
@@ -360,6 +363,7 @@ pub fn play_page<S: Store>(
 ) -> Result<Outcome, FirstError>
     ensures meets { (files : Files) → S.files store.old ≡ Some files → Meets (played_page files folder.now page.now steps) (S.asked store.old) (S.asked store.new) result }
     ensures headline { (files : Files) → S.files store.old ≡ Some files → (script : Script) → PutsBackTo files folder.now script → IfOk result (λ o. ShowsOriginal o.report o.end script steps) }
+    ensures laziness { (files : Files) → S.files store.old ≡ Some files → (script : Script) (back : PutsBackTo files folder.now script) → IfOk result (λ o. ShowsLoads back.manifest o.report o.end script steps) }
     ensures same_files { S.files store.new ≡ S.files store.old }
     ensures later { S.faults store.old ≤ S.faults store.new }
     ensures cause { IsErrOf result FirstError.ReadFault → Rose (S.faults store.old) (S.faults store.new) }

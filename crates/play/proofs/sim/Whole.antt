@@ -97,6 +97,15 @@ needs_follow (of_needed low high h) = Laws.needed (needs_follow h)
 needs_follow of_end = Laws.ended
 needs_follow of_out = Laws.ran_out
 
+original_follows : {t u : Trace} → OfTrace t u → NeedsFollow t
+original_follows (of_called low high h) = Laws.called (original_follows h)
+original_follows (of_uncaught low high h) = Laws.uncaught (original_follows h)
+original_follows (of_idle low high h) = Laws.idle (original_follows h)
+original_follows (of_entered low high h) = Laws.entered (original_follows h)
+original_follows (of_needed low high h) = Laws.entered (original_follows h)
+original_follows of_end = Laws.ended
+original_follows of_out = Laws.ran_out
+
 cut_follows : {t u : Trace} → IsCut t u → NeedsFollow u → NeedsFollow t
 cut_follows cut n = Laws.ran_out
 cut_follows same_end n = Laws.ended
@@ -196,7 +205,7 @@ module _ (entries : ℕ → Option Func) (source script : Script) (h : OfStmts e
         let right = (in_time q.of).at i o there.0 eo there.1 in
         let same = agree i n q.m r there.0 er there.1 in
         (omega (arith, right.0, same), omega (arith, right.1, same));
-    needs = λ n. let r = matched n in let low = r.low in cut_follows (longer n r.m (omega arith)) (needs_follow r.of);
+    needs = λ n. let r = matched n in let low = r.low in (cut_follows (longer n r.m (omega arith)) (needs_follow r.of), original_follows r.of);
   }
     where
       agree : (i n m a b : ℕ) → slice_get (times (written entries script n)) i ≡ Some a → slice_get (times (written entries script m)) i ≡ Some b → a ≡ b

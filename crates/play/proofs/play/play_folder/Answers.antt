@@ -1,8 +1,8 @@
-use Rattle.std.proofs.Common.{◌≡◌, Option, None, Some, sym, ap, ◌∙◌, subst}
-use Rattle.dl_ports.specs.Files.{Files, and_name}
+use Rattle.std.proofs.Common.{◌≡◌, Some, sym, ap, ◌∙◌, subst}
+use Rattle.dl_ports.specs.Files.{and_name}
 use Rattle.play.specs.Site.{manifest_name}
 use Rattle.play.specs.ManifestReader.{read_manifest}
-use Rattle.play.specs.Played.{after_name, for_manifest, for_manifest_file}
+use Rattle.play.specs.Played.{for_manifest, for_manifest_file}
 use Rattle.play.specs.Answers.{Meets, NeedFails}
 use Rattle.play.proofs.Runs.{after_meets, need_meets}
 use Rattle.play.proofs.play.play_folder.Goals as goal

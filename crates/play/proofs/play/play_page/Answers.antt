@@ -1,4 +1,4 @@
-use Rattle.std.proofs.Common.{◌≡◌, Option, None, Some, sym, ap, ◌∙◌, subst}
+use Rattle.std.proofs.Common.{sym, ap, ◌∙◌, subst}
 use Rattle.play.specs.Played.{played, for_page_file}
 use Rattle.play.specs.Answers.{Meets}
 use Rattle.play.proofs.Runs.{after_meets, need_meets}
@@ -25,3 +25,6 @@ returns-in-Ok-clause-meets g c files told =
 
 pub returns-in-Ok-clause-headline : goal.returns-in-Ok-clause-headline
 returns-in-Ok-clause-headline g c files told script back = c.play_first.ensures.headline files (c.read_needed.ensures.same_files ∙ told) script back
+
+pub returns-in-Ok-clause-laziness : goal.returns-in-Ok-clause-laziness
+returns-in-Ok-clause-laziness g c files told script back = c.play_first.ensures.laziness files (c.read_needed.ensures.same_files ∙ told) script back

@@ -1,7 +1,7 @@
-use Rattle.std.proofs.Common.{◌≡◌, Option, None, Some, sym, ap, ◌∙◌, subst}
-use Rattle.dl_ports.specs.Files.{Files, and_name}
+use Rattle.std.proofs.Common.{◌≡◌, Some, sym, ap, ◌∙◌, subst}
+use Rattle.dl_ports.specs.Files.{and_name}
 use Rattle.play.specs.Site.{script_name, read_script_file}
-use Rattle.play.specs.Played.{after_name, for_script, for_script_file}
+use Rattle.play.specs.Played.{for_script, for_script_file}
 use Rattle.play.specs.Answers.{Meets, NeedFails}
 use Rattle.play.proofs.Loads.{front_one}
 use Rattle.play.proofs.Runs.{after_meets, need_meets}

@@ -1,4 +1,4 @@
-use Rattle.std.proofs.Common.{◌≡◌, sym, ap, ◌∙◌, subst}
+use Rattle.std.proofs.Common.{sym, ap, ◌∙◌, subst}
 use Rattle.play.specs.Answers.{Meets, site_left}
 use Rattle.play.proofs.Started.{started, none_agree}
 use Rattle.play.proofs.play.run_script.Goals as goal

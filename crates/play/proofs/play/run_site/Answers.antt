@@ -1,10 +1,8 @@
-use Rattle.std.proofs.Common.{◌≡◌, ℕ, Some, refl, sym, ap, ◌∙◌, subst, inl, inr, arith}
-use Rattle.dl_ports.specs.Files.{Files}
+use Rattle.std.proofs.Common.{◌∙◌, arith}
 use Rattle.play.specs.declared.outcome.End.TheVariants as end
-use Rattle.play.specs.declared.table.Table.{Table}
 use Rattle.play.specs.Report.{ended_text, out_of_steps_text}
-use Rattle.play.specs.Answers.{Ahead, SiteAgrees, site_left}
-use Rattle.play.proofs.Runs.{ahead_memory, ahead_refused, ahead_kept, ahead_loaded, ahead_ended, ahead_first}
+use Rattle.play.specs.Answers.{site_left}
+use Rattle.play.proofs.Runs.{ahead_memory, ahead_refused, ahead_kept, ahead_loaded, ahead_ended}
 use Rattle.play.proofs.play.run_site.Goals as goal
 
 pub returns-in_default-clause-meets : goal.returns-in_default-clause-meets

@@ -1,6 +1,4 @@
-use Rattle.std.proofs.Common.{◌≡◌, ◌+◌, ◌++◌, ◌∷◌, [], ℕ, List, length, Some, map, drop, refl, sym, ap, ◌∙◌, subst, arith}
-use Rattle.js_tree.specs.Tree.{Func}
-use Rattle.play.specs.declared.table.Function.{Function}
+use Rattle.std.proofs.Common.{◌≡◌, ◌+◌, ◌++◌, ◌∷◌, [], length, Some, map, drop, sym, ap, ◌∙◌, subst, arith}
 use Rattle.play.specs.Machine.{func_of, BodiesAre}
 use Rattle.play.specs.Program.{declared}
 use Rattle.play.specs.Site.{site_tree, plain_count}

@@ -1,4 +1,4 @@
-use Rattle.std.proofs.Common.{ap, ◌∙◌, arith}
+use Rattle.std.proofs.Common.{arith}
 use Rattle.play.proofs.Lists.{got_index, any_at}
 use Rattle.play.proofs.site.place_in.Goals as goal
 

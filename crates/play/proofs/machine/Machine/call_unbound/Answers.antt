@@ -1,6 +1,5 @@
-use Rattle.std.proofs.Common.{◌≡◌, ◌+◌, ◌++◌, codes, ap, sym, ◌∙◌, arith}
-use Rattle.play.specs.Value.{ShownObject}
-use Rattle.play.specs.Loader.{UncaughtLine, IdleLine}
+use Rattle.std.proofs.Common.{◌+◌, ◌++◌, ap, sym, ◌∙◌, arith}
+use Rattle.play.specs.Loader.{IdleLine}
 use Rattle.play.specs.Report.{line_text}
 use Rattle.play.proofs.Texts.{uncaught_line}
 use Rattle.play.proofs.Turned.{name_runs_out, ends_uncaught}

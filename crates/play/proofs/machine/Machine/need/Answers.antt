@@ -1,4 +1,4 @@
-use Rattle.std.proofs.Common.{◌+◌, ◌-◌, refl, ap, ◌∙◌, arith}
+use Rattle.std.proofs.Common.{◌-◌, refl, arith}
 use Rattle.play.proofs.Turned.{call_runs_out, keeps_same, needs_next}
 use Rattle.play.proofs.machine.Machine.need.Goals as goal
 
