@@ -251,10 +251,26 @@ fn each_status_has_its_text_and_number(rt: HostRuntime) -> Result<(), Fail> {
     name.extend(b"site/c1.txt")?;
     let told: [(Status, &str, u8); 10] = [
         (Status::Words(WordFault::First), "words: First", 1),
-        (Status::Refused(Refusal::First(FirstFile::Page)), "form page", 2),
-        (Status::Refused(Refusal::First(FirstFile::Manifest)), "form site.txt", 2),
-        (Status::Refused(Refusal::First(FirstFile::Script)), "form s1.js", 2),
-        (Status::Refused(Refusal::First(FirstFile::Cluster(7))), "form c7.txt", 2),
+        (
+            Status::Refused(Refusal::First(FirstFile::Page)),
+            "form page",
+            2,
+        ),
+        (
+            Status::Refused(Refusal::First(FirstFile::Manifest)),
+            "form site.txt",
+            2,
+        ),
+        (
+            Status::Refused(Refusal::First(FirstFile::Script)),
+            "form s1.js",
+            2,
+        ),
+        (
+            Status::Refused(Refusal::First(FirstFile::Cluster(7))),
+            "form c7.txt",
+            2,
+        ),
         (Status::OutOfSteps, "out of steps", 3),
         (Status::ReadFault, "read fault", 6),
         (Status::WriteFault, "write fault", 7),

@@ -93,9 +93,9 @@ come_table tb c = with_status (with_status tb c Loader.Asked) c Loader.Here
 
 agrees_more : (cluster : ℕ → Option ℕ) (come : List ℕ) (tb : Loader.Table) (c : ℕ) → has tb c ≡ true → Agrees cluster come tb → Agrees cluster (c ∷ come) (come_table tb c)
 agrees_more cluster come tb c there a = record {
-    status = λ d h. by d (nat_eq c d) refl (sym (has_come d) ∙ h);
-    listed = λ k d h. has_come d ∙ a.listed k d h;
-  }
+  status = λ d h. by d (nat_eq c d) refl (sym (has_come d) ∙ h);
+  listed = λ k d h. has_come d ∙ a.listed k d h;
+}
   where
     asked : Loader.Table
     asked = with_status tb c Loader.Asked
