@@ -26,13 +26,9 @@ use Rattle.play.specs.Laziness.{original_lines, ShowsLoads, lazy_lines}
 use Rattle.play.proofs.Lazy.{site_lazy, lazy_prefix}
 use Rattle.play.proofs.sim.Lates.{entries_late}
 use Rattle.play.proofs.sim.Back.{script_back}
-use Rattle.play.proofs.sim.Whole.{joined}
+use Rattle.play.proofs.sim.Whole.{prefix_same, same_prefix, joined}
 
 -- ---- the calls of lines
-
-nothing : (xs : List Line) → xs ++ [] ≡ xs
-nothing [] = refl
-nothing (x ∷ xs) = ap (λ l. x ∷ l) (nothing xs)
 
 line_on : (l : Line) (xs ys : List Line) → call_line l (xs ++ ys) ≡ call_line l xs ++ ys
 line_on (CallLine name args) xs ys = refl
@@ -180,9 +176,6 @@ read_whole folder file lines x report e h = by (reads_all file lines x)
     by (inl q) = whole_of folder lines x report e (ap (answer_of folder) (sym q) ∙ h)
     by (inr q) = absurd (given folder (reads file lines x) report e q h)
 
-prefix_between : {A : Type 0} {xs ys zs ws : List A} → xs ≡ zs → ys ≡ ws → IsPrefix xs ys → IsPrefix zs ws
-prefix_between e f p = record { rest = p.rest; is = ap (λ l. l ++ p.rest) (sym e) ∙ (p.is ∙ f) }
-
 -- ---- the headline, and laziness
 
 script_joined : (files : Files) (folder : List ℕ) (script : Script) (p : PutsBackTo files folder script) → Joined (entries files folder p.manifest) (site_tree p.manifest.plain p.items) script
@@ -234,8 +227,8 @@ module _ (files : Files) (folder : List ℕ) (n : ℕ) (script : Script) (p : Pu
         steps = w.steps;
         report_is = w.report_is;
         whole = λ q. lines_are ∙ (ap (lazy_lines (cluster_of p.manifest) []) (j.whole n (λ r. ended_ran (sym (w.ends q) ∙ r))).0 ∙ sym (originals_are_lazy files folder script p n));
-        within = prefix_between (sym lines_are) (sym (originals_are_lazy files folder script p n)) (lazy_prefix (cluster_of p.manifest) [] (seen trace) (seen (original script n)) (j.within n));
-        reached = λ m le. prefix_between (sym (originals_are_lazy files folder script p m)) (sym lines_are) (lazy_prefix (cluster_of p.manifest) [] (seen (original script m)) (seen trace) (j.reached m n le));
+        within = same_prefix lines_are (prefix_same (lazy_prefix (cluster_of p.manifest) [] (seen trace) (seen (original script n)) (j.within n)) (sym (originals_are_lazy files folder script p n)));
+        reached = λ m le. same_prefix (originals_are_lazy files folder script p m) (prefix_same (lazy_prefix (cluster_of p.manifest) [] (seen (original script m)) (seen trace) (j.reached m n le)) (sym lines_are));
       }
 
 pub played_shows : (files : Files) (folder page : List ℕ) (n : ℕ) (script : Script) → PutsBackTo files folder script → (report : List ℕ) (e : End) → (played files folder page n).answer ≡ Gives report e → ShowsOriginal report e script n

@@ -1,6 +1,7 @@
 -- The walk over a run's marks gives the lazy lines of those that an original makes.
-use Rattle.std.proofs.Common.{◌≡◌, ℕ, ◌-◌, List, [], ◌∷◌, ◌++◌, map, take, filter, Option, Some, None, Bool, true, false, ◌||◌, cond, refl, sym, ap, ◌∙◌, subst, arith, append_assoc}
-use Rattle.std.specs.Prelude.{nat_eq, count_by}
+use Rattle.std.proofs.Common.{◌≡◌, ℕ, List, [], ◌∷◌, ◌++◌, map, Option, Some, None, Bool, true, false, ◌||◌, cond, refl, sym, ap, ◌∙◌, subst, append_assoc}
+use Rattle.std.proofs.lemmas.List.{append-nil}
+use Rattle.std.specs.Prelude.{nat_eq}
 use Rattle.std.specs.List.{list_any}
 use Rattle.std.specs.Option.{option_map}
 use Rattle.std.proofs.lemmas.Bool.{eqb-true}
@@ -16,7 +17,7 @@ use Rattle.play.specs.Played.{cluster_number, cluster_of, site_lines}
 use Rattle.play.specs.Laws
 use Rattle.play.specs.Laws.{seen, NeedsFollow, IsPrefix}
 use Rattle.play.specs.Laziness.{waits_for, wait_lines, and_come, lazy_lines}
-use Rattle.play.proofs.Lefts.{same_number}
+use Rattle.play.proofs.Lefts.{same_number, asks_none}
 use Rattle.play.proofs.Tables.{none_some, some_one}
 
 -- ---- tables
@@ -61,16 +62,6 @@ set_other (p ∷ ps) c d new h = by (nat_eq p.0 c) refl (set_other ps c d new h)
 
 -- ---- events under a window of none
 
-append_none : (xs : List Line) → xs ++ [] ≡ xs
-append_none [] = refl
-append_none (x ∷ xs) = ap (λ l. x ∷ l) (append_none xs)
-
-asks_none : (tb : Loader.Table) → to_ask 0 tb ≡ []
-asks_none tb = ap (λ n. take n (map (λ p. p.0) (filter (λ p. is_absent p.1) tb))) none
-  where
-    none : 0 - count_by (λ p. Loader.is_asked p.1) tb ≡ 0
-    none = omega arith
-
 fills_nothing : (m : Moved) → fills 0 m ≡ m
 fills_nothing m = by m.loader.background refl
   where
@@ -78,7 +69,7 @@ fills_nothing m = by m.loader.background refl
     by false e = refl
     by true e =
         ap (λ cs. moves (ask_all m.loader.table cs) m.loader.waited true (m.lines ++ map AskLine cs)) (asks_none m.loader.table)
-        ∙ (ap (λ ls. moves m.loader.table m.loader.waited true ls) (append_none m.lines) ∙ sym (ap (λ b. moves m.loader.table m.loader.waited b m.lines) e))
+        ∙ (ap (λ ls. moves m.loader.table m.loader.waited true ls) (append-nil m.lines) ∙ sym (ap (λ b. moves m.loader.table m.loader.waited b m.lines) e))
 
 -- ---- what has come
 

@@ -57,6 +57,13 @@ mapped_at [] i c h = absurd (none_some h)
 mapped_at (d ∷ ds) zero c h = let e : d ≡ c = cc in ap (λ c. Some c.cluster) e
 mapped_at (d ∷ ds) (suc i) c h = mapped_at ds i c h
 
+-- where the window is none, nothing is asked for in the background
+pub asks_none : (tb : Loader.Table) → to_ask 0 tb ≡ []
+asks_none tb = ap (λ n. take n (map (λ p. p.0) (filter (λ p. is_absent p.1) tb))) none
+  where
+    none : 0 - count_by (λ p. is_asked p.1) tb ≡ 0
+    none = omega arith
+
 -- the status of a cluster by its place
 pub status_at : (before : ℕ) (cs : List ClusterLine) (ls : List (Option (List Entry))) (i : ℕ) (c : ClusterLine) (o : Option (List Entry)) → Rises before (cluster_numbers cs) → slice_get cs i ≡ Some c → slice_get ls i ≡ Some o
     → status_of (statuses cs ls) c.cluster ≡ status o
@@ -119,14 +126,8 @@ module _ (folder : List ℕ) (file : ℕ → ClusterFile) (t : Table) (report : 
   -- the scripts are over
   pub left_idle : (b i : ℕ) (o : Outcome) (s : State) → left_for folder file t report (Say (Idle b) i (End o s)) ≡ record { answer = Gives ((report ++ line_text IdleLine) ++ ended_text s.steps) end.Ended; asked = [] }
   left_idle b i o s =
-      ap (λ cs. record { answer = answer_after folder report (reads file (IdleLine ∷ (map AskLine cs ++ [])) (Ended s.steps)); asked = cluster_names folder file (map AskLine cs ++ []) }) nothing
+      ap (λ cs. record { answer = answer_after folder report (reads file (IdleLine ∷ (map AskLine cs ++ [])) (Ended s.steps)); asked = cluster_names folder file (map AskLine cs ++ []) }) (asks_none (statuses t.manifest.clusters t.loaded))
       ∙ ap (λ text. record { answer = Gives text end.Ended; asked = [] }) (sym (append_assoc report (line_text IdleLine) (ended_text s.steps)))
-    where
-      none_taken : (n : ℕ) (xs : List ℕ) → take (0 - n) xs ≡ []
-      none_taken n xs = let e : 0 - n ≡ 0 = omega arith in ap (λ k. take k xs) e
-
-      nothing : to_ask 0 (statuses t.manifest.clusters t.loaded) ≡ []
-      nothing = none_taken (count_by (λ p. is_asked p.1) (statuses t.manifest.clusters t.loaded)) (map (λ p. p.0) (filter (λ p. is_absent p.1) (statuses t.manifest.clusters t.loaded)))
 
   -- an exception left the script, which is over
   pub left_uncaught : (v : Shown) (i b j : ℕ) (o : Outcome) (s : State) → left_for folder file t report (Say (Uncaught v) i (Say (Idle b) j (End o s)))

@@ -1,5 +1,6 @@
 -- What the load of a cluster leaves of the answer.
-use Rattle.std.proofs.Common.{◌≡◌, ℕ, List, [], ◌∷◌, ◌++◌, Option, Some, None, refl, sym, ap, ◌∙◌, subst, ◌⊎◌, inl, inr}
+use Rattle.std.proofs.Common.{◌≡◌, ℕ, List, [], ◌∷◌, Option, Some, None, refl, sym, ap, ◌∙◌, subst, ◌⊎◌, inl, inr}
+use Rattle.std.proofs.lemmas.List.{append-nil}
 use Rattle.dl_ports.specs.Files.{Files, and_name}
 use Rattle.js_tree.specs.Tree.{Func}
 use Rattle.play.specs.declared.table.Table.{Table}
@@ -17,11 +18,7 @@ use Rattle.play.proofs.Loaded.{agrees_more}
 
 pub front_none : (asked : Names) (names : List (List ℕ)) → AsksFront asked asked names
 front_none None names = (0, refl)
-front_none (Some before) names = (0, ap Some (sym (nothing before)))
-  where
-    nothing : (xs : List (List ℕ)) → xs ++ [] ≡ xs
-    nothing [] = refl
-    nothing (x ∷ xs) = ap (λ l. x ∷ l) (nothing xs)
+front_none (Some before) names = (0, ap Some (sym (append-nil before)))
 
 pub one_name : (asked : Names) (name : List ℕ) → and_name asked name ≡ and_names asked (name ∷ [])
 one_name None name = refl

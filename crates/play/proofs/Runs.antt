@@ -1,5 +1,6 @@
 -- How the answer of a run is composed of its parts.
-use Rattle.std.proofs.Common.{◌≡◌, ℕ, suc, ◌+◌, List, [], ◌∷◌, ◌++◌, length, take, Some, None, refl, sym, ap, ◌∙◌, subst, arith}
+use Rattle.std.proofs.Common.{◌≡◌, ℕ, suc, ◌+◌, List, [], ◌∷◌, ◌++◌, length, take, Some, None, refl, sym, ap, ◌∙◌, subst, arith, append_assoc}
+use Rattle.std.proofs.lemmas.List.{append-nil}
 use Rattle.std.specs.Prelude.{Result, Ok, Err, IfOk, IfErr}
 use Rattle.dl_ports.specs.Files.{Files, and_name}
 use Rattle.play.specs.declared.table.Table.{Table}
@@ -16,10 +17,6 @@ use Rattle.play.specs.Answers.{Names, and_names, AsksFront, ErrorMeets, Meets, N
 use Rattle.play.proofs.Loads.{front_none, one_name, front_one, front_either}
 
 -- ---- names
-
-append_assoc : (xs ys zs : List (List ℕ)) → (xs ++ ys) ++ zs ≡ xs ++ (ys ++ zs)
-append_assoc [] ys zs = refl
-append_assoc (x ∷ xs) ys zs = ap (λ l. x ∷ l) (append_assoc xs ys zs)
 
 and_more : (asked : Names) (xs ys : List (List ℕ)) → and_names (and_names asked xs) ys ≡ and_names asked (xs ++ ys)
 and_more None xs ys = refl
@@ -82,12 +79,8 @@ module _ (files : Files) (folder : List ℕ) (whole : Answered) (before now : Na
   ahead_ended new text e (Ok o) ends f memory =
       let is : site_left files folder t m ≡ record { answer = Gives (new.report ++ text new.clock.steps) e; asked = [] } = ends (entries files folder t.manifest) folder (file_of files folder t.manifest) a.agrees in (
         sym a.answer_is ∙ (ap (λ (r : Answered). r.answer) is ∙ (ap (λ report. Gives report e) (sym f.0) ∙ ap (λ z. Gives o.report z) (sym f.1))),
-        a.asked_is ∙ ap (and_names before) (nothing a.names ∙ (ap (λ (r : Answered). a.names ++ r.asked) (sym is) ∙ a.rest_is)),
+        a.asked_is ∙ ap (and_names before) (sym (append-nil a.names) ∙ (ap (λ (r : Answered). a.names ++ r.asked) (sym is) ∙ a.rest_is)),
       )
-    where
-      nothing : (xs : List (List ℕ)) → xs ≡ xs ++ []
-      nothing [] = refl
-      nothing (x ∷ xs) = ap (λ l. x ∷ l) (nothing xs)
   ahead_ended new text e (Err x) ends f memory = subst (ErrorMeets whole before now) (sym memory) ahead_memory
 
 pub ahead_first : (files : Files) (folder : List ℕ) (asked : Names) (t : Table) (m : Machine) → SiteAgrees files folder t → Ahead files folder (site_left files folder t m) asked asked t m
@@ -99,13 +92,9 @@ ahead_first files folder asked t m ag = record {
   agrees = ag;
 }
   where
-    nothing : (xs : List (List ℕ)) → xs ≡ xs ++ []
-    nothing [] = refl
-    nothing (x ∷ xs) = ap (λ l. x ∷ l) (nothing xs)
-
     none : (asked : Names) → asked ≡ and_names asked []
     none None = refl
-    none (Some before) = ap Some (nothing before)
+    none (Some before) = ap Some (sym (append-nil before))
 
 -- ---- a file, and what comes after it
 

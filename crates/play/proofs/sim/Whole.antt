@@ -17,10 +17,10 @@ use Rattle.play.proofs.sim.Follows.{RunSim, Matches, sim}
 
 -- ---- prefixes
 
-prefix_same : {A : Type 0} {xs ys zs : List A} → IsPrefix xs ys → ys ≡ zs → IsPrefix xs zs
+pub prefix_same : {A : Type 0} {xs ys zs : List A} → IsPrefix xs ys → ys ≡ zs → IsPrefix xs zs
 prefix_same p e = record { rest = p.rest; is = p.is ∙ e }
 
-same_prefix : {A : Type 0} {xs ys zs : List A} → ys ≡ xs → IsPrefix xs zs → IsPrefix ys zs
+pub same_prefix : {A : Type 0} {xs ys zs : List A} → ys ≡ xs → IsPrefix xs zs → IsPrefix ys zs
 same_prefix e p = record { rest = p.rest; is = ap (λ l. l ++ p.rest) e ∙ p.is }
 
 -- ---- a cut run has a prefix of the marks, and of their times
