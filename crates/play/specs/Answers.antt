@@ -5,6 +5,8 @@ use Rattle.play.specs.declared.outcome.Outcome.{Outcome}
 use Rattle.play.specs.declared.outcome.FirstError.{FirstError}
 use Rattle.play.specs.declared.outcome.FirstError.TheVariants.{ReadFault, Missing, First, OutOfMemory}
 use Rattle.dl_ports.specs.Files.{Files, and_name}
+use Rattle.dl_ports.specs.declared.port.PortError.{PortError}
+use Rattle.dl_ports.specs.declared.port.PortError.TheVariants as port
 use Rattle.play.specs.declared.outcome.FirstFile.TheVariants as file
 use Rattle.js_parser.specs.declared.first.FirstEntry.{FirstEntry}
 use Rattle.play.specs.declared.manifest.ClusterLine.{ClusterLine}
@@ -40,6 +42,11 @@ OutcomeMeets r before now o = (r.answer ≡ Gives o.report o.end) × (now ≡ an
 -- the result is what is to be answered, and the names asked are those
 abbrev pub Meets : Answered → Names → Names → Result Outcome FirstError → Type 0
 Meets r before now result = MatchResult result (OutcomeMeets r before now) (ErrorMeets r before now)
+
+-- the error of a store that refused a call
+abbrev pub error_of : PortError → FirstError
+error_of port.Failed = ReadFault
+error_of port.OutOfMemory = OutOfMemory
 
 -- why a file that is needed is not read
 abbrev pub NeedFails : Files → List ℕ → Names → Names → FirstError → Type 0

@@ -1,6 +1,8 @@
 ghost use Rattle.std.specs.Prelude.{◌≡◌};
+ghost use Rattle.play.specs.Answers.{error_of};
 ghost use Rattle.play.specs.declared.outcome.FirstError.TheVariants.{OutOfMemory};
 
+use dl_ports::PortError;
 use dl_text::Text;
 use std::alloc::{AllocError, AllocFailed};
 
@@ -37,6 +39,17 @@ pub enum FirstError {
     /// The file breaks its form.
     First(FirstFile),
     OutOfMemory,
+}
+
+impl From<PortError> for FirstError {
+    ghost from_gives = { λ port e. e ≡ error_of port };
+
+    fn from(error: PortError) -> FirstError {
+        match error {
+            PortError::Failed => FirstError::ReadFault,
+            PortError::OutOfMemory => FirstError::OutOfMemory,
+        }
+    }
 }
 
 impl From<AllocError> for FirstError {

@@ -21,7 +21,7 @@ use crate::manifest::{ClusterLine, Manifest, read_manifest};
 use crate::outcome::{End, FirstError, FirstFile, Outcome};
 use crate::site::{read_script, statements_of, table_of};
 use crate::table::{Entries, Place, Table};
-use dl_ports::{PortError, Store};
+use dl_ports::Store;
 use dl_text::Text;
 use js_parser::FirstItem;
 use sqlite_items::Items;
@@ -55,11 +55,9 @@ fn read_needed<S: Store>(alloc: Global, name: &str, store: &mut S) -> Result<Vec
     ensures cause { IsErrOf result FirstError.ReadFault → Rose (S.faults store.old) (S.faults store.new) }
     ensures same_write_faults { S.write_faults store.new ≡ S.write_faults store.old }
 {
-    match store.read(name) {
-        Ok(Some(bytes)) => Ok(bytes),
-        Ok(None) => Err(FirstError::Missing(text_of(alloc, name.as_bytes())?)),
-        Err(PortError::Failed) => Err(FirstError::ReadFault),
-        Err(PortError::OutOfMemory) => Err(FirstError::OutOfMemory),
+    match store.read(name)? {
+        Some(bytes) => Ok(bytes),
+        None => Err(FirstError::Missing(text_of(alloc, name.as_bytes())?)),
     }
 }
 
@@ -80,13 +78,10 @@ fn fetch<S: Store>(
     ensures same_write_faults { S.write_faults store.new ≡ S.write_faults store.old }
 {
     let name = cluster_name(alloc, folder, line.cluster)?;
-    match read_needed(alloc, name.as_str(), store) {
-        Err(e) => Err(e),
-        Ok(bytes) => match read_cluster(alloc, line, bytes.as_slice()) {
-            Err(_) => Err(FirstError::OutOfMemory),
-            Ok(None) => Err(FirstError::First(FirstFile::Cluster(line.cluster))),
-            Ok(Some(entries)) => Ok(entries),
-        },
+    let bytes = read_needed(alloc, name.as_str(), store)?;
+    match read_cluster(alloc, line, bytes.as_slice())? {
+        None => Err(FirstError::First(FirstFile::Cluster(line.cluster))),
+        Some(entries) => Ok(entries),
     }
 }
 
@@ -129,13 +124,9 @@ fn load<S: Store>(
 {
     let line = &table.manifest.clusters.as_slice()[place];
     let cluster = line.cluster;
-    match fetch(alloc, line, folder, store) {
-        Err(e) => Err(e),
-        Ok(entries) => match arrive(alloc, table, machine, place, cluster, entries) {
-            Err(_) => Err(FirstError::OutOfMemory),
-            Ok(()) => Ok(()),
-        },
-    }
+    let entries = fetch(alloc, line, folder, store)?;
+    arrive(alloc, table, machine, place, cluster, entries)?;
+    Ok(())
 }
 
 /// The report with its last line, and the end.
@@ -172,10 +163,7 @@ fn run_site<S: Store>(
     let mut table = table;
     let mut machine = machine;
     'clusters: loop {
-        let Ok(halt) = machine.run(&table) else {
-            return Err(FirstError::OutOfMemory);
-        };
-        match halt {
+        match machine.run(&table)? {
             Halt::Ended => {
                 let Machine { report, clock, .. } = machine;
                 return finish(alloc, report, b"end ended", clock.steps, End::Ended);
@@ -190,12 +178,7 @@ fn run_site<S: Store>(
                     End::OutOfSteps,
                 );
             }
-            Halt::Needs(place) => {
-                match load(alloc, &mut table, &mut machine, place, folder, store) {
-                    Err(e) => return Err(e),
-                    Ok(()) => {}
-                }
-            }
+            Halt::Needs(place) => load(alloc, &mut table, &mut machine, place, folder, store)?,
         }
     }
 }
@@ -243,13 +226,9 @@ fn run_script<S: Store>(
             End::OutOfSteps,
         );
     };
-    match table_of(alloc, manifest, items) {
-        Err(_) => Err(FirstError::OutOfMemory),
-        Ok(table) => match start(alloc, items, clock) {
-            Err(_) => Err(FirstError::OutOfMemory),
-            Ok(machine) => run_site(alloc, table, machine, folder, store),
-        },
-    }
+    let table = table_of(alloc, manifest, items)?;
+    let machine = start(alloc, items, clock)?;
+    run_site(alloc, table, machine, folder, store)
 }
 
 /// The name of the script's file.
@@ -274,18 +253,11 @@ fn play_script<S: Store>(
     ensures cause { IsErrOf result FirstError.ReadFault → Rose (S.faults store.old) (S.faults store.new) }
     ensures same_write_faults { S.write_faults store.new ≡ S.write_faults store.old }
 {
-    let Ok(name) = script_name(alloc, folder) else {
-        return Err(FirstError::OutOfMemory);
-    };
-    match read_needed(alloc, name.as_str(), store) {
-        Err(e) => Err(e),
-        Ok(bytes) => match read_script(alloc, &manifest, bytes.as_slice()) {
-            Err(_) => Err(FirstError::OutOfMemory),
-            Ok(script) => match script {
-                None => Err(FirstError::First(FirstFile::Script)),
-                Some(items) => run_script(alloc, manifest, items.as_slice(), folder, steps, store),
-            },
-        },
+    let name = script_name(alloc, folder)?;
+    let bytes = read_needed(alloc, name.as_str(), store)?;
+    match read_script(alloc, &manifest, bytes.as_slice())? {
+        None => Err(FirstError::First(FirstFile::Script)),
+        Some(items) => run_script(alloc, manifest, items.as_slice(), folder, steps, store),
     }
 }
 
@@ -309,18 +281,11 @@ fn play_folder<S: Store>(
     ensures cause { IsErrOf result FirstError.ReadFault → Rose (S.faults store.old) (S.faults store.new) }
     ensures same_write_faults { S.write_faults store.new ≡ S.write_faults store.old }
 {
-    let Ok(name) = manifest_name(alloc, folder) else {
-        return Err(FirstError::OutOfMemory);
-    };
-    match read_needed(alloc, name.as_str(), store) {
-        Err(e) => Err(e),
-        Ok(bytes) => match read_manifest(alloc, bytes.as_slice()) {
-            Err(_) => Err(FirstError::OutOfMemory),
-            Ok(read) => match read {
-                None => Err(FirstError::First(FirstFile::Manifest)),
-                Some(manifest) => play_script(alloc, manifest, folder, steps, store),
-            },
-        },
+    let name = manifest_name(alloc, folder)?;
+    let bytes = read_needed(alloc, name.as_str(), store)?;
+    match read_manifest(alloc, bytes.as_slice())? {
+        None => Err(FirstError::First(FirstFile::Manifest)),
+        Some(manifest) => play_script(alloc, manifest, folder, steps, store),
     }
 }
 
@@ -369,8 +334,6 @@ pub fn play_page<S: Store>(
     ensures cause { IsErrOf result FirstError.ReadFault → Rose (S.faults store.old) (S.faults store.new) }
     ensures same_write_faults { S.write_faults store.new ≡ S.write_faults store.old }
 {
-    match read_needed(alloc, page, store) {
-        Err(e) => Err(e),
-        Ok(bytes) => play_first(alloc, bytes.as_slice(), folder, steps, store),
-    }
+    let bytes = read_needed(alloc, page, store)?;
+    play_first(alloc, bytes.as_slice(), folder, steps, store)
 }

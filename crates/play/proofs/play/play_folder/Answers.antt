@@ -1,32 +1,47 @@
 use Rattle.std.proofs.Common.{◌≡◌, Some, sym, ap, ◌∙◌, subst}
+use Rattle.std.proofs.lemmas.Result.{err_from_is_err_and}
 use Rattle.dl_ports.specs.Files.{and_name}
 use Rattle.play.specs.Site.{manifest_name}
 use Rattle.play.specs.ManifestReader.{read_manifest}
 use Rattle.play.specs.Played.{for_manifest, for_manifest_file}
 use Rattle.play.specs.Answers.{Meets, NeedFails}
+use Rattle.play.proofs.Loads.{front_one}
 use Rattle.play.proofs.Runs.{after_meets, need_meets}
 use Rattle.play.proofs.play.play_folder.Goals as goal
 
-pub returns-in-Err-clause-meets : goal.returns-in-Err-clause-meets
-returns-in-Err-clause-meets g c files told =
+pub returns-in_err-bytes-clause-meets : goal.returns-in_err-bytes-clause-meets
+returns-in_err-bytes-clause-meets g c files told =
     let v = c.as_str.ensures.value in
-    let e = c.in-Ok.ensures in
+    let e = c.in_ok-name.ensures in
     let same : c.as_str.result.now ≡ manifest_name c.args.folder.now = cc in
-    need_meets (manifest_name c.args.folder.now) (g.S.Store.asked c.args.store.now) (g.S.Store.asked c.read_needed.new.store) files
-    (for_manifest_file files c.args.folder.now c.args.steps (files (manifest_name c.args.folder.now))) c.in-Err.e
+    let p = err_from_is_err_and c.from_residual-in_err-bytes.result c.from_residual-in_err-bytes.ensures.1 in
+    rw (p.1, p.2)
+    (need_meets (manifest_name c.args.folder.now) (g.S.Store.asked c.args.store.now) (g.S.Store.asked c.read_needed.new.store) files
+    (for_manifest_file files c.args.folder.now c.args.steps (files (manifest_name c.args.folder.now))) c.in_err-bytes.field-0.0
     (λ h. ap (for_manifest_file files c.args.folder.now c.args.steps) h)
-    (subst (λ name. NeedFails files name (g.S.Store.asked c.args.store.now) (g.S.Store.asked c.read_needed.new.store) c.in-Err.e) same (c.in-Err.ensures.refused files told))
+    (subst (λ name. NeedFails files name (g.S.Store.asked c.args.store.now) (g.S.Store.asked c.read_needed.new.store) c.in_err-bytes.field-0.0) same (c.in_err-bytes.ensures.refused files told)))
+
+pub returns-in_err-read_manifest-clause-meets : goal.returns-in_err-read_manifest-clause-meets
+returns-in_err-read_manifest-clause-meets g c files told =
+    let v = c.as_str.ensures.value in
+    let e = c.in_ok-name.ensures in
+    let same : c.as_str.result.now ≡ manifest_name c.args.folder.now = cc in
+    let p = err_from_is_err_and c.from_residual-in_err-read_manifest.result c.from_residual-in_err-read_manifest.ensures.1 in
+    rw (p.1, p.2)
+    (front_one (g.S.Store.asked c.args.store.now) (g.S.Store.asked c.read_needed.new.store) (manifest_name c.args.folder.now)
+    (for_manifest_file files c.args.folder.now c.args.steps (files (manifest_name c.args.folder.now))).asked
+    ((c.in_ok-bytes.ensures.found files told).1 ∙ ap (and_name (g.S.Store.asked c.args.store.now)) same))
 
 pub returns-clause-meets : goal.returns-clause-meets
 returns-clause-meets g c files told =
     let v = c.as_str.ensures.value in
-    let e = c.in-Ok.ensures in
+    let e = c.in_ok-name.ensures in
     let same : c.as_str.result.now ≡ manifest_name c.args.folder.now = cc in
-    let found = c.in-Ok-read_needed.ensures.found files told in
+    let found = c.in_ok-bytes.ensures.found files told in
     let slice = c.as_slice.ensures.value in
-    let reads = c.in-Ok-read_manifest.ensures.reads in
+    let reads = c.in_ok-read_manifest.ensures.reads in
     let some = c.in-Some.is in
-    let read : read_manifest c.in-Ok-read_needed.bytes.items ≡ Some c.in-Some.manifest = cc in
+    let read : read_manifest c.in_ok-bytes.bytes.items ≡ Some c.in-Some.manifest = cc in
     let r = ap (for_manifest_file files c.args.folder.now c.args.steps) (ap files (sym same) ∙ found.0)
     ∙ ap (for_manifest files c.args.folder.now c.args.steps) read in
     after_meets (manifest_name c.args.folder.now) (g.S.Store.asked c.args.store.now) (g.S.Store.asked c.read_needed.new.store)

@@ -1,19 +1,12 @@
 use Rattle.std.proofs.Common.{sym, ap, ◌∙◌, subst}
 use Rattle.play.specs.Played.{played, for_page_file}
 use Rattle.play.specs.Answers.{Meets}
-use Rattle.play.proofs.Runs.{after_meets, need_meets}
+use Rattle.play.proofs.Runs.{after_meets}
 use Rattle.play.proofs.play.play_page.Goals as goal
 
-pub returns-in-Err-clause-meets : goal.returns-in-Err-clause-meets
-returns-in-Err-clause-meets g c files told =
-    need_meets c.args.page.now (g.S.Store.asked c.args.store.now) (g.S.Store.asked c.read_needed.new.store) files
-    (for_page_file files c.args.folder.now c.args.page.now c.args.steps (files c.args.page.now)) c.in-Err.e
-    (λ h. ap (for_page_file files c.args.folder.now c.args.page.now c.args.steps) h)
-    (c.in-Err.ensures.refused files told)
-
-pub returns-in-Ok-clause-meets : goal.returns-in-Ok-clause-meets
-returns-in-Ok-clause-meets g c files told =
-    let found = c.in-Ok.ensures.found files told in
+pub returns-clause-meets : goal.returns-clause-meets
+returns-clause-meets g c files told =
+    let found = c.in_ok-bytes.ensures.found files told in
     let slice = c.as_slice.ensures.value in
     let r = ap (for_page_file files c.args.folder.now c.args.page.now c.args.steps) found.0
     ∙ ap (λ bytes. played files c.args.folder.now bytes c.args.steps) (sym slice) in
@@ -23,8 +16,8 @@ returns-in-Ok-clause-meets g c files told =
     (subst (λ r. Meets r (g.S.Store.asked c.read_needed.new.store) (g.S.Store.asked c.play_first.new.store) c.play_first.result) (sym r)
     (c.play_first.ensures.meets files (c.read_needed.ensures.same_files ∙ told)))
 
-pub returns-in-Ok-clause-headline : goal.returns-in-Ok-clause-headline
-returns-in-Ok-clause-headline g c files told script back = c.play_first.ensures.headline files (c.read_needed.ensures.same_files ∙ told) script back
+pub returns-clause-headline : goal.returns-clause-headline
+returns-clause-headline g c files told script back = c.play_first.ensures.headline files (c.read_needed.ensures.same_files ∙ told) script back
 
-pub returns-in-Ok-clause-laziness : goal.returns-in-Ok-clause-laziness
-returns-in-Ok-clause-laziness g c files told script back = c.play_first.ensures.laziness files (c.read_needed.ensures.same_files ∙ told) script back
+pub returns-clause-laziness : goal.returns-clause-laziness
+returns-clause-laziness g c files told script back = c.play_first.ensures.laziness files (c.read_needed.ensures.same_files ∙ told) script back
