@@ -1,8 +1,12 @@
 -- How a command ends, over what it is to answer.
-use Rattle.std.specs.Prelude.{◌≡◌, ◌⊎◌, ℕ, Bool, true, false, List, Option}
+use Rattle.std.specs.Prelude.{◌≡◌, ◌⊎◌, ℕ, Bool, true, false, List, Option, ◌∷◌, ◌++◌, codes}
+use Rattle.std.specs.Str.{is_utf8}
+use Rattle.std.specs.Fmt.{decimal}
 use Rattle.dl_ports.specs.Streams.{and_more, WritesPart}
 use Rattle.play.specs.declared.outcome.End.{End}
 use Rattle.play.specs.declared.outcome.End.TheVariants as end
+use Rattle.play.specs.declared.outcome.FirstFile.{FirstFile}
+use Rattle.play.specs.declared.outcome.FirstFile.TheVariants as first
 use Rattle.play.specs.declared.outcome.FirstError.{FirstError}
 use Rattle.play.specs.declared.outcome.FirstError.TheVariants as error
 use Rattle.js_tree.specs.Tree.{Script}
@@ -14,6 +18,7 @@ use Rattle.play.specs.Answers.{Names, and_names, AsksFront}
 use Rattle.doloto_app.specs.declared.status.Status.{Status}
 use Rattle.doloto_app.specs.declared.status.Status.TheVariants.{Ended, Words, Refused, OutOfSteps, ReadFault, WriteFault, OutOfMemory, Missing}
 use Rattle.doloto_app.specs.declared.status.Refusal.TheVariants.{First}
+use Rattle.doloto_app.specs.declared.words.WordFault.TheVariants as word
 
 -- the numbers of the program's ends
 abbrev pub number_of : Status → ℕ
@@ -25,6 +30,27 @@ number_of ReadFault = 6
 number_of WriteFault = 7
 number_of OutOfMemory = 8
 number_of (Missing name) = 10
+
+-- the texts that tell them
+abbrev pub file_text : FirstFile → List ℕ
+file_text first.Page = codes "page"
+file_text first.Manifest = codes "site.txt"
+file_text first.Script = codes "s1.js"
+file_text (first.Cluster c) = 99 ∷ (decimal c ++ codes ".txt")
+
+abbrev pub missing_text : List ℕ → Bool → List ℕ
+missing_text name true = codes "missing: " ++ name
+missing_text name false = codes "missing"
+
+abbrev pub text_of : Status → List ℕ
+text_of Ended = codes "ended"
+text_of (Words word.First) = codes "words: First"
+text_of (Refused (First file)) = codes "form " ++ file_text file
+text_of OutOfSteps = codes "out of steps"
+text_of ReadFault = codes "read fault"
+text_of WriteFault = codes "write fault"
+text_of OutOfMemory = codes "out of memory"
+text_of (Missing name) = missing_text name (is_utf8 name)
 
 -- what a sink has taken, where told
 abbrev pub Taken : Type 0

@@ -1,5 +1,5 @@
-ghost use Rattle.std.specs.Prelude.{◌≡◌};
-ghost use Rattle.doloto_app.specs.Ends.{number_of};
+ghost use Rattle.std.specs.Prelude.{◌≡◌, Some};
+ghost use Rattle.doloto_app.specs.Ends.{number_of, text_of};
 
 use crate::words::WordFault;
 use dl_text::Text;
@@ -46,6 +46,8 @@ impl Status {
 }
 
 impl fmt::Display for Status {
+    ghost output = { λ status. Some (text_of status) };
+
     fn fmt<W: fmt::Write>(&self, f: &mut fmt::Formatter<W>) -> fmt::Result {
         match self {
             Status::Ended => f.write_str("ended"),
