@@ -39,7 +39,9 @@ impl Clock {
 
     /// Takes the steps that are left.
     pub fn run_out(&mut self)
-        ensures { self.new.steps ≡ self.old.steps + self.old.left }
+        ensures steps { self.new.steps ≡ self.old.steps + self.old.left }
+        ensures left { self.new.left ≡ 0 }
+        ensures beats { self.new.beats ≡ self.old.beats }
     {
         self.steps += self.left;
         self.left = 0;
