@@ -8,6 +8,7 @@
 
 mod form;
 
-ghost use Rattle.js_grammar.specs.Grammar.{SourceElements};
+ghost use Rattle.js_grammar.specs.Fault.{Fault};
+ghost use Rattle.js_grammar.specs.PrintedText.{script_text};
 
 pub use form::{Construct, Form, Limits};
