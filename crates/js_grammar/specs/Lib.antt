@@ -10,3 +10,4 @@ pub mod Accepted
 pub mod Fault
 pub mod Printed
 pub mod PrintedText
+pub mod Rows

@@ -7,6 +7,7 @@
 #![tactic(auto)]
 
 mod form;
+mod rows;
 
 ghost use Rattle.js_grammar.specs.Fault.{Fault};
 ghost use Rattle.js_grammar.specs.PrintedText.{script_text};

@@ -1,0 +1,27 @@
+//! Worked texts: these calls do nothing, and each says the tokens of a text, its tree and what the tree is written as.
+
+ghost use Rattle.std.specs.Prelude.{codes};
+ghost use Rattle.js_grammar.specs.declared.form.Form.TheVariants.{Source, Written};
+ghost use Rattle.js_grammar.specs.Accepted.{source_limits, written_limits};
+ghost use Rattle.js_grammar.specs.Rows as rows;
+
+/// Texts that are accepted, and what they are written as.
+pub fn accepted_texts()
+    ensures three_lines { rows.IsWorked Source (source_limits 65535) rows.three_lines rows.three_lines_tree (codes "a;++b;\n") }
+    ensures returned_line { rows.IsWorked Source (source_limits 65535) rows.returned_line rows.returned_line_tree (codes "function f(){return;x;}\n") }
+    ensures called_line { rows.IsWorked Source (source_limits 65535) rows.called_line rows.called_line_tree (codes "a(b);\n") }
+    ensures signs { rows.IsWorked Source (source_limits 65535) rows.signs rows.signs_tree (codes "x=- -a+ +31;\n") }
+    ensures new_called { rows.IsWorked Source (source_limits 65535) rows.new_called rows.new_called_tree (codes "new(a().b)(1);\n") }
+    ensures literals { rows.IsWorked Source (source_limits 65535) rows.literals rows.literals_tree (codes "var a=[1,,2],o={\"if\":1,b:2};\n") }
+    ensures in_header { rows.IsWorked Source (source_limits 65535) rows.in_header rows.in_header_tree (codes "for(var i=(1 in x);;);\n") }
+    ensures nearest_if { rows.IsWorked Source (source_limits 65535) rows.nearest_if rows.nearest_if_tree (codes "if(a)if(b)c;else d;\n") }
+    ensures labelled_loop { rows.IsWorked Source (source_limits 65535) rows.labelled_loop rows.labelled_loop_tree (codes "l:while(a){if(b)continue l;else break;}c;\n") }
+    ensures do_line { rows.IsWorked Source (source_limits 65535) rows.do_line rows.do_line_tree (codes "do;while(a);b;\n") }
+    ensures clauses { rows.IsWorked Source (source_limits 65535) rows.clauses rows.clauses_tree (codes "switch(a){case 1:b;case 2:default:break;}\n") }
+    ensures handlers { rows.IsWorked Source (source_limits 65535) rows.handlers rows.handlers_tree (codes "try{throw a;}catch(e){}finally{}\n") }
+    ensures properties { rows.IsWorked Source (source_limits 65535) rows.properties rows.properties_tree (codes "for(var k in o)r[k]=o[k]||!k;\n") }
+    ensures news { rows.IsWorked Source (source_limits 65535) rows.news rows.news_tree (codes "new new a()();new b().c;\n") }
+    ensures functions { rows.IsWorked Source (source_limits 65535) rows.functions rows.functions_tree (codes "(function(){})();(function f(a,b){}).c;\n") }
+    ensures groups { rows.IsWorked Source (source_limits 65535) rows.groups rows.groups_tree (codes "a-b-c;a-(b-c);a?b:c?d:e;a=b=c;(a,b)?c:d;\n") }
+    ensures stub { rows.IsWorked Written (written_limits 196605) rows.stub rows.stub_tree (codes "function g(){return eval($dl_get(2)).apply(this,arguments);}\n") }
+{}
