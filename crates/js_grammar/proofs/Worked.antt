@@ -102,7 +102,7 @@ unfolding unicode_ident utf16_chars digits
 labelled_loop = (record {
   unlimited = record {
     derives = record { elements = name (codes "l") false ∷ mark m.Colon false ∷ word w.While false ∷ mark m.OpenParenthesis false ∷ name (codes "a") false ∷ mark m.CloseParenthesis false ∷ mark m.OpenBrace false ∷ word w.If false ∷ mark m.OpenParenthesis false ∷ name (codes "b") false ∷ mark m.CloseParenthesis false ∷ word w.Continue false ∷ name (codes "l") false ∷ mark m.Semicolon false ∷ word w.Else false ∷ word w.Break false ∷ mark m.CloseBrace false ∷ name (codes "c") true ∷ []; newline = false; whole = refl;
-      derived = g.source_and (g.statement (g.label false false refl refl (g.while false false false (g.identifier false (lit≤ tt) refl) (g.block (g.braces false false (g.statement_and (g.if_else false false false false (g.identifier false (lit≤ tt) refl) (g.continue_to false refl (written false)) (g.break false refl (before_brace refl))) g.no_statement)))))) (g.source_and (g.statement (g.expression (g.identifier true (lit≤ tt) refl) (λ e. cc) (λ e. cc) (at_end refl))) g.no_source) };
+      derived = g.source_and (g.statement (g.label false false refl refl (g.while false false false (g.identifier false (lit≤ tt) refl) (g.block (g.braces false false (g.statement_and (g.if_else false false false false (g.identifier false (lit≤ tt) refl) (g.continue_to false refl refl (written false)) (g.break false refl (before_brace refl))) g.no_statement)))))) (g.source_and (g.statement (g.expression (g.identifier true (lit≤ tt) refl) (λ e. cc) (λ e. cc) (at_end refl))) g.no_source) };
     few_functions = lit≤ tt };
   keeps = record { deep_enough = lit≤ tt; nested_enough = lit≤ tt; open_enough = lit≤ tt } }, refl)
 

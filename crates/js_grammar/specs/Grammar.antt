@@ -204,10 +204,10 @@ mutual
         → Statement form c (word w.For b ∷ (mark m.OpenParenthesis d ∷ (word w.Var e ∷ (u ++ (word w.In f ∷ (v ++ (mark m.CloseParenthesis g ∷ body))))))) next (Tree.ForIn (Tree.AVar n value) y s)
     -- 12.7, 12.8: no line terminator stands before the label, and behind it nothing fits but a semicolon
     continue : {c : Context} {next : Symbol} {u : Symbols} (b : Bool) → c.in_loop ≡ true → EndsAtOnce next u → Statement form c (word w.Continue b ∷ u) next (Tree.Continue None)
-    continue_to : {c : Context} {next : Symbol} {n : Name} {u : Symbols} (b : Bool) → is_among n c.loops ≡ true → Ends 0 next u
+    continue_to : {c : Context} {next : Symbol} {n : Name} {u : Symbols} (b : Bool) → is_reference form n ≡ true → is_among n c.loops ≡ true → Ends 0 next u
         → Statement form c (word w.Continue b ∷ (name n false ∷ u)) next (Tree.Continue (Some n))
     break : {c : Context} {next : Symbol} {u : Symbols} (b : Bool) → context.may_break c ≡ true → EndsAtOnce next u → Statement form c (word w.Break b ∷ u) next (Tree.Break None)
-    break_from : {c : Context} {next : Symbol} {n : Name} {u : Symbols} (b : Bool) → is_among n c.labels ≡ true → Ends 0 next u
+    break_from : {c : Context} {next : Symbol} {n : Name} {u : Symbols} (b : Bool) → is_reference form n ≡ true → is_among n c.labels ≡ true → Ends 0 next u
         → Statement form c (word w.Break b ∷ (name n false ∷ u)) next (Tree.Break (Some n))
     -- 12.9
     return : {c : Context} {next : Symbol} {u : Symbols} (b : Bool) → c.in_function ≡ true → EndsAtOnce next u → Statement form c (word w.Return b ∷ u) next (Tree.Return Tree.NoExpr)

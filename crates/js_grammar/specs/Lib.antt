@@ -11,3 +11,5 @@ pub mod Fault
 pub mod Printed
 pub mod PrintedText
 pub mod Rows
+pub mod WellPlaced
+pub mod Laws

@@ -7,6 +7,7 @@
 #![tactic(auto)]
 
 mod form;
+mod laws;
 mod rows;
 
 ghost use Rattle.js_grammar.specs.Fault.{Fault};
