@@ -13,3 +13,4 @@ pub mod PrintedText
 pub mod Rows
 pub mod WellPlaced
 pub mod Laws
+pub mod RefusedRows

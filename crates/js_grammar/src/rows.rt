@@ -2,8 +2,13 @@
 
 ghost use Rattle.std.specs.Prelude.{codes};
 ghost use Rattle.js_grammar.specs.declared.form.Form.TheVariants.{Source, Written};
-ghost use Rattle.js_grammar.specs.Accepted.{source_limits, written_limits};
+ghost use Rattle.js_grammar.specs.Accepted.{Accepted, source_limits, written_limits};
+ghost use Rattle.js_grammar.specs.Symbols.{symbols};
+ghost use Rattle.js_grammar.specs.declared.form.Construct.TheVariants as c;
+ghost use Rattle.js_grammar.specs.Fault.{Fault, Syntax, Refused, TooDeep, TooMany};
 ghost use Rattle.js_grammar.specs.Rows as rows;
+ghost use Rattle.js_grammar.specs.RefusedRows as refused;
+ghost use Rattle.js_grammar.specs.RefusedRows.{place};
 
 /// Texts that are accepted, and what they are written as.
 pub fn accepted_texts()
@@ -24,4 +29,14 @@ pub fn accepted_texts()
     ensures functions { rows.IsWorked Source (source_limits 65535) rows.functions rows.functions_tree (codes "(function(){})();(function f(a,b){}).c;\n") }
     ensures groups { rows.IsWorked Source (source_limits 65535) rows.groups rows.groups_tree (codes "a-b-c;a-(b-c);a?b:c?d:e;a=b=c;(a,b)?c:d;\n") }
     ensures stub { rows.IsWorked Written (written_limits 196605) rows.stub rows.stub_tree (codes "function g(){return eval($dl_get(2)).apply(this,arguments);}\n") }
+{}
+
+/// Texts that are refused, and what may be told of them.
+pub fn refused_texts()
+    ensures with_statement { Fault Source (source_limits 65535) refused.with_statement (Refused (place 3 5) c.With) }
+    ensures two_names { Fault Source (source_limits 65535) refused.two_names (Syntax (place 1 3)) }
+    ensures own_name { Fault Source (source_limits 65535) refused.own_name (Refused (place 1 3) c.DlName) }
+    ensures two_functions { Fault Source (source_limits 1) refused.two_functions (TooMany (place 1 15)) }
+    ensures nots_accepted { Accepted Source (source_limits 65535) (symbols (refused.nots 398 0)) (refused.nots_tree 398) }
+    ensures nots_refused { Fault Source (source_limits 65535) (refused.nots 399 0) (TooDeep (place 1 1)) }
 {}
