@@ -1,3 +1,5 @@
 pub mod Worked
 pub mod Placing
 pub mod Refusing
+pub mod Levels
+pub mod FormalLists

@@ -22,7 +22,7 @@ TargetsRise = (form : Form) (i : Bool) (l : ℕ) (u : Symbols) (x : Expr) → Ex
 abbrev pub InMayBeAllowed : Type 0
 InMayBeAllowed = (form : Form) (i : Bool) (l : ℕ) (u : Symbols) (x : Expr) → Expression form i l u x → Expression form true l u x
 
--- an expression, arguments, a list of arguments or of declarators, the rest of a function, and a statement have tokens
+-- expressions, lists of arguments and of declarators, statements and declarations have tokens
 abbrev pub ExpressionsHaveTokens : Type 0
 ExpressionsHaveTokens = (form : Form) (i : Bool) (l : ℕ) (u : Symbols) (x : Expr) → Expression form i l u x → u ≢ []
 

@@ -2,6 +2,34 @@
 
 ghost use Rattle.js_grammar.specs.Laws as law;
 
+/// An expression of a level is one of each lower level.
+pub fn levels_go_down()
+    ensures { law.LevelsGoDown }
+{}
+
+/// What can be assigned to is a LeftHandSideExpression, whatever it was read as.
+pub fn targets_rise()
+    ensures { law.TargetsRise }
+{}
+
+/// An expression that may stand where the operator `in` may not, may stand where it may.
+pub fn in_may_be_allowed()
+    ensures { law.InMayBeAllowed }
+{}
+
+/// Expressions, lists of arguments and of declarators, statements and declarations have tokens.
+pub fn have_tokens()
+    ensures expressions { law.ExpressionsHaveTokens }
+    ensures argument_lists { law.ArgumentListsHaveTokens }
+    ensures declarator_lists { law.DeclaratorListsHaveTokens }
+    ensures statements { law.StatementsHaveTokens }
+{}
+
+/// One list of formals at most has given tokens.
+pub fn one_list_of_formals()
+    ensures { law.OneListOfFormals }
+{}
+
 /// No token of what begins a script is refused whatever stands around it, and no name stands directly behind another on its
 /// line.
 pub fn tokens_are_placed()
