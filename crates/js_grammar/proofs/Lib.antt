@@ -3,3 +3,4 @@ pub mod Placing
 pub mod Refusing
 pub mod Levels
 pub mod FormalLists
+pub mod Ending

@@ -1,10 +1,17 @@
 -- What holds of every expression, statement and script of the grammar.
-use Rattle.std.specs.Prelude.{ℕ, ◌≡◌, ◌≢◌, ◌≤◌, Bool, true, false, List, []}
-use Rattle.js_tree.specs.Tree.{Name, Expr, Exprs, Stmt, VarItems, Func, Stmts, Script}
+use Rattle.std.specs.Prelude.{ℕ, ◌≡◌, ◌≢◌, ◌≤◌, ◌||◌, Bool, true, false, List, [], ◌∷◌}
+use Rattle.js_lexer.specs.declared.mark.Mark.TheVariants as m
+use Rattle.js_lexer.specs.declared.word.Word.TheVariants as w
+use Rattle.js_lexer.specs.declared.token.TokenKind.{TokenKind}
+use Rattle.js_lexer.specs.declared.token.TokenKind.TheVariants as k
+use Rattle.js_tree.specs.declared.tree.BinaryOp.TheVariants as b
+use Rattle.js_tree.specs.Tree
+use Rattle.js_tree.specs.Tree.{Name, Expr, Exprs, Stmt, VarItems, Func, Stmts, Script, MaybeStmt}
 use Rattle.js_grammar.specs.declared.form.Form.{Form}
 use Rattle.js_grammar.specs.Symbols.{Symbol, Symbols}
 use Rattle.js_grammar.specs.Operators.{is_target}
 use Rattle.js_grammar.specs.Contexts.{Context}
+use Rattle.js_grammar.specs.Ends.{ends_changed}
 use Rattle.js_grammar.specs.Grammar.{Formals, Expression, ArgumentList, Arguments, DeclaratorList, FunctionRest, Statement, SourceElement}
 use Rattle.js_grammar.specs.Accepted.{Derives}
 use Rattle.js_grammar.specs.Fault.{Begins}
@@ -43,3 +50,60 @@ OneListOfFormals = (form : Form) (u : Symbols) (ns others : List Name) → Forma
 -- and no name stands directly behind another on its line.
 abbrev pub TokensArePlaced : Type 0
 TokensArePlaced = (form : Form) (functions : ℕ) (used : Symbols) → Begins form functions used → are_placed form false used ≡ true
+
+-- the statement ends in an `if` without `else`
+abbrev mutual
+  pub ends_in_if : Stmt → Bool
+  ends_in_if (Tree.If test body other) = other_ends_in_if other
+  ends_in_if (Tree.While test body) = ends_in_if body
+  ends_in_if (Tree.For first test next body) = ends_in_if body
+  ends_in_if (Tree.ForIn target object body) = ends_in_if body
+  ends_in_if (Tree.Label name body) = ends_in_if body
+  ends_in_if _ = false
+
+  pub other_ends_in_if : MaybeStmt → Bool
+  other_ends_in_if Tree.NoStmt = true
+  other_ends_in_if (Tree.AStmt s) = ends_in_if s
+
+-- An `else` belongs to the nearest `if`: no statement that one follows ends in an `if` without `else`.
+abbrev pub ElseIsOfTheNearestIf : Type 0
+ElseIsOfTheNearestIf = (form : Form) (c : Context) (u : Symbols) (next : Symbol) (s : Stmt) → Statement form c u next s → next.kind ≡ k.Word w.Else → ends_in_if s ≡ false
+
+-- the mark goes on with any expression, or with any that no `++` or `--` ends
+abbrev pub goes_on : TokenKind → Bool
+goes_on (k.Mark m.OpenParenthesis) = true
+goes_on (k.Mark m.OpenBracket) = true
+goes_on (k.Mark m.Plus) = true
+goes_on (k.Mark m.Minus) = true
+goes_on (k.Mark m.Slash) = true
+goes_on _ = false
+
+abbrev pub is_semicolon : TokenKind → Bool
+is_semicolon (k.Mark m.Semicolon) = true
+is_semicolon _ = false
+
+abbrev pub ends_with_semicolon : Symbols → Bool
+ends_with_semicolon [] = false
+ends_with_semicolon (s ∷ []) = is_semicolon s.kind
+ends_with_semicolon (s ∷ t ∷ ss) = ends_with_semicolon (t ∷ ss)
+
+-- No semicolon is inserted before such a mark, unless behind `++` or `--`.
+abbrev pub NoneIsInsertedWhereTheNextFits : Type 0
+NoneIsInsertedWhereTheNextFits = (form : Form) (c : Context) (u : Symbols) (next : Symbol) (x : Expr) → Statement form c u next (Tree.Do x) → goes_on next.kind ≡ true
+    → (ends_with_semicolon u || ends_changed u) ≡ true
+
+abbrev pub is_in_operation : Expr → Bool
+is_in_operation (Tree.Binary b.In left right) = true
+is_in_operation _ = false
+
+abbrev pub opens : TokenKind → Bool
+opens (k.Mark m.OpenParenthesis) = true
+opens _ = false
+
+abbrev pub begins_in_parentheses : Symbols → Bool
+begins_in_parentheses [] = false
+begins_in_parentheses (s ∷ ss) = opens s.kind
+
+-- Where the operator `in` may not stand, an operation with it is in parentheses.
+abbrev pub InIsInParentheses : Type 0
+InIsInParentheses = (form : Form) (l : ℕ) (u : Symbols) (x : Expr) → Expression form false l u x → is_in_operation x ≡ true → begins_in_parentheses u ≡ true

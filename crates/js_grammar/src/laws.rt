@@ -35,3 +35,18 @@ pub fn one_list_of_formals()
 pub fn tokens_are_placed()
     ensures { law.TokensArePlaced }
 {}
+
+/// An `else` belongs to the nearest `if`.
+pub fn else_is_of_the_nearest_if()
+    ensures { law.ElseIsOfTheNearestIf }
+{}
+
+/// No semicolon is inserted before a bracket, a sign or a slash that goes on with the expression.
+pub fn none_is_inserted_where_the_next_fits()
+    ensures { law.NoneIsInsertedWhereTheNextFits }
+{}
+
+/// Where the operator `in` may not stand, an operation with it is in parentheses.
+pub fn in_is_in_parentheses()
+    ensures { law.InIsInParentheses }
+{}
