@@ -53,7 +53,7 @@ joined : (form : Form) (behind : Bool) (u v : Symbols) → are_placed form behin
 joined form behind [] v h i = i
 joined form behind (s ∷ u) v h i =
     both (may_come form behind s) (are_placed form (is_name s.kind) (u ++ v)) (left (may_come form behind s) (are_placed form (is_name s.kind) u) h)
-      (joined form (is_name s.kind) u v (right (may_come form behind s) (are_placed form (is_name s.kind) u) h) i)
+    (joined form (is_name s.kind) u v (right (may_come form behind s) (are_placed form (is_name s.kind) u) h) i)
 
 join : {form : Form} {behind : Bool} {u v : Symbols} → Placed form behind u → Placed form (ends_name behind u) v → Placed form behind (u ++ v)
 join {form = form} {behind = behind} {u = u} {v = v} h i = record { is = joined form behind u v h.is i.is }
@@ -62,7 +62,7 @@ front : (form : Form) (behind : Bool) (u v : Symbols) → are_placed form behind
 front form behind [] v h = refl
 front form behind (s ∷ u) v h =
     both (may_come form behind s) (are_placed form (is_name s.kind) u) (left (may_come form behind s) (are_placed form (is_name s.kind) (u ++ v)) h)
-      (front form (is_name s.kind) u v (right (may_come form behind s) (are_placed form (is_name s.kind) (u ++ v)) h))
+    (front form (is_name s.kind) u v (right (may_come form behind s) (are_placed form (is_name s.kind) (u ++ v)) h))
 
 ends-join : (behind : Bool) (u v : Symbols) → ends_name behind (u ++ v) ≡ ends_name (ends_name behind u) v
 ends-join behind [] v = refl
@@ -77,10 +77,12 @@ none = record { is = refl }
 
 -- behind anything, a token that is no name
 plain : {form : Form} {behind : Bool} {s : Symbol} {v : Symbols} → is_name s.kind ≡ false → stands form s.kind ≡ true → Placed form false v → Placed form behind (s ∷ v)
-plain {form = form} {behind = behind} {s = s} {v = v} away may h = record { is =
-    both (may_come form behind s) (are_placed form (is_name s.kind) v)
+plain {form = form} {behind = behind} {s = s} {v = v} away may h = record {
+  is =
+      both (may_come form behind s) (are_placed form (is_name s.kind) v)
       (both (stands form s.kind) (not (behind && is_name_on_line s)) may (not-and behind (is_name_on_line s) (ap (λ a. a && not s.newline) away)))
-      (subst (λ a. are_placed form a v ≡ true) (sym away) h.is) }
+      (subst (λ a. are_placed form a v ≡ true) (sym away) h.is);
+}
 
 -- what stands behind u begins with a token that is no name
 linked : {form : Form} {behind : Bool} {u : Symbols} (s : Symbol) {v : Symbols} → Placed form behind u → is_name s.kind ≡ false → stands form s.kind ≡ true → Placed form false v
@@ -89,8 +91,10 @@ linked s h away may i = join h (plain away may i)
 
 -- a name, behind no name
 named : {form : Form} {n : Name} {newline : Bool} {v : Symbols} → (not (is_own n) || is_written form) ≡ true → Placed form true v → Placed form false (name n newline ∷ v)
-named {form = form} {n = n} {newline = newline} {v = v} h i = record { is =
-    both (may_come form false (name n newline)) (are_placed form true v) (both (stands form (k.Name n)) true h refl) i.is }
+named {form = form} {n = n} {newline = newline} {v = v} h i = record {
+  is =
+      both (may_come form false (name n newline)) (are_placed form true v) (both (stands form (k.Name n)) true h refl) i.is;
+}
 
 -- ---- names
 
@@ -257,8 +261,10 @@ headed {form = form} {s = s} {v = v} {next = next} away may h = record { are = p
 
 -- tokens, one that is away name, then what joins
 between : {form : Form} {u : Symbols} (s : Symbol) {v : Symbols} {next : Symbol} → Placed form false u → is_name s.kind ≡ false → stands form s.kind ≡ true → Joins form v next → Joins form (u ++ (s ∷ v)) next
-between {form = form} {u = u} s {v = v} {next = next} h away may i = record { are = linked s h away may i.are;
-  meet = subst (λ a. meets a next ≡ true) (sym (ends-join false u (s ∷ v) ∙ ap (λ a. ends_name a v) away)) i.meet }
+between {form = form} {u = u} s {v = v} {next = next} h away may i = record {
+  are = linked s h away may i.are;
+  meet = subst (λ a. meets a next ≡ true) (sym (ends-join false u (s ∷ v) ∙ ap (λ a. ends_name a v) away)) i.meet;
+}
 
 -- a name, a token that is none, then what joins
 named-between : {form : Form} {n : Name} {newline : Bool} {s : Symbol} {v : Symbols} {next : Symbol} → (not (is_own n) || is_written form) ≡ true → is_name s.kind ≡ false → stands form s.kind ≡ true
@@ -269,8 +275,8 @@ behind-name : (form : Form) (behind : Bool) (v : Symbols) (next : Symbol) → ar
 behind-name form behind [] next h i = refl
 behind-name form behind (s ∷ v) next h i =
     both (may_come form behind s) (are_placed form (is_name s.kind) v)
-      (both (stands form s.kind) (not (behind && is_name_on_line s)) (left (stands form s.kind) true (left (may_come form false s) (are_placed form (is_name s.kind) v) h)) i)
-      (right (may_come form false s) (are_placed form (is_name s.kind) v) h)
+    (both (stands form s.kind) (not (behind && is_name_on_line s)) (left (stands form s.kind) true (left (may_come form false s) (are_placed form (is_name s.kind) v) h)) i)
+    (right (may_come form false s) (are_placed form (is_name s.kind) v) h)
 
 -- a statement, then others
 pub followed : {form : Form} {u v : Symbols} (next : Symbol) → Joins form u (first v next) → Placed form false v → Placed form false (u ++ v)
@@ -382,7 +388,7 @@ mutual
   statement (g.while c d f x s) = headed refl refl (headed refl refl (between (mark m.CloseParenthesis f) (expression x) refl refl (statement s)))
   statement (g.for c d f h j init test step s) =
       headed refl refl (headed refl refl (between (mark m.Semicolon f) (for_first init) refl refl (between (mark m.Semicolon h) (optional test) refl refl
-        (between (mark m.CloseParenthesis j) (optional step) refl refl (statement s)))))
+      (between (mark m.CloseParenthesis j) (optional step) refl refl (statement s)))))
   statement (g.for_in c d f h x t y s) =
       headed refl refl (headed refl refl (between (word w.In f) (expression x) refl refl (between (mark m.CloseParenthesis h) (expression y) refl refl (statement s))))
   statement (g.for_var_in c d f h j x y s) =
@@ -402,7 +408,7 @@ mutual
   statement (g.try_finally {next = next} c d s last) = headed refl refl (between (word w.Finally d) (block next s).are refl refl (block next last))
   statement {form = form} (g.try_catch_finally {next = next} {n = n} c d f h j o s r handler last) =
       headed refl refl (between (word w.Catch d) (block next s).are refl refl (headed refl refl (named-between (binding form n r) refl refl
-        (between (word w.Finally o) (block next handler).are refl refl (block next last)))))
+      (between (word w.Finally o) (block next handler).are refl refl (block next last)))))
 
   statements : {form : Form} {c : Context} {u : Symbols} {next : Symbol} {ss : Stmts} → StatementList form c u next ss → Joins form u next
   statements g.no_statement = record { are = none; meet = refl }

@@ -8,6 +8,7 @@ use Rattle.js_lexer.specs.declared.word.Word.TheVariants as w
 use Rattle.js_lexer.specs.declared.token.TokenKind.TheVariants as k
 use Rattle.js_tree.specs.declared.tree.BinaryOp.TheVariants as b
 use Rattle.js_tree.specs.declared.tree.PrefixOp.TheVariants as p
+use Rattle.js_tree.specs.declared.tree.PostfixOp.TheVariants as q
 use Rattle.js_grammar.specs.declared.form.Form.TheVariants.{Source, Written}
 use Rattle.js_grammar.specs.Symbols.{Symbols, word, mark, name, number, string}
 use Rattle.js_grammar.specs.Operators.{LogicalOr, Operation}
@@ -53,6 +54,16 @@ signs = (record {
   unlimited = record {
     derives = record { elements = name (codes "x") false ∷ mark m.Assign false ∷ mark m.Minus false ∷ mark m.Minus false ∷ name (codes "a") false ∷ mark m.Plus false ∷ mark m.Plus false ∷ number 31 false ∷ []; newline = false; whole = refl;
       derived = g.source_and (g.statement (g.expression (g.assign None m.Assign false (lit≤ tt) refl (g.identifier false (lit≤ tt) refl) refl (g.binary (Operation b.Add) false (lit≤ tt) refl (g.prefix p.Minus false (lit≤ tt) refl (g.prefix p.Minus false (lit≤ tt) refl (g.identifier false (lit≤ tt) refl))) (g.prefix p.Plus false (lit≤ tt) refl (g.numeral false (lit≤ tt))))) (λ e. cc) (λ e. cc) (at_end refl))) g.no_source };
+    few_functions = lit≤ tt };
+  keeps = record { deep_enough = lit≤ tt; nested_enough = lit≤ tt; open_enough = lit≤ tt } }, refl)
+
+-- `a+ ++b- --c;d++ +e`
+pub signs_apart : rows.IsWorked Source (source_limits 65535) rows.signs_apart rows.signs_apart_tree (codes "a+ ++b- --c;d+++e;\n")
+unfolding unicode_ident utf16_chars digits
+signs_apart = (record {
+  unlimited = record {
+    derives = record { elements = name (codes "a") false ∷ mark m.Plus false ∷ mark m.PlusPlus false ∷ name (codes "b") false ∷ mark m.Minus false ∷ mark m.MinusMinus false ∷ name (codes "c") false ∷ mark m.Semicolon false ∷ name (codes "d") false ∷ mark m.PlusPlus false ∷ mark m.Plus false ∷ name (codes "e") false ∷ []; newline = false; whole = refl;
+      derived = g.source_and (g.statement (g.expression (g.binary (Operation b.Subtract) false (lit≤ tt) refl (g.binary (Operation b.Add) false (lit≤ tt) refl (g.identifier false (lit≤ tt) refl) (g.changed p.Increment false (lit≤ tt) refl (g.identifier false (lit≤ tt) refl) refl)) (g.changed p.Decrement false (lit≤ tt) refl (g.identifier false (lit≤ tt) refl) refl)) (λ e. cc) (λ e. cc) (written false))) (g.source_and (g.statement (g.expression (g.binary (Operation b.Add) false (lit≤ tt) refl (g.postfix q.Increment (lit≤ tt) (g.identifier false (lit≤ tt) refl) refl) (g.identifier false (lit≤ tt) refl)) (λ e. cc) (λ e. cc) (at_end refl))) g.no_source) };
     few_functions = lit≤ tt };
   keeps = record { deep_enough = lit≤ tt; nested_enough = lit≤ tt; open_enough = lit≤ tt } }, refl)
 

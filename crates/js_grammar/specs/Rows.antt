@@ -4,6 +4,7 @@ use Rattle.js_lexer.specs.declared.mark.Mark.TheVariants as m
 use Rattle.js_lexer.specs.declared.word.Word.TheVariants as w
 use Rattle.js_tree.specs.declared.tree.BinaryOp.TheVariants as b
 use Rattle.js_tree.specs.declared.tree.PrefixOp.TheVariants as p
+use Rattle.js_tree.specs.declared.tree.PostfixOp.TheVariants as q
 use Rattle.js_tree.specs.Tree.{Script}
 use Rattle.js_tree.specs.Tree
 use Rattle.js_grammar.specs.declared.form.Form.{Form}
@@ -44,6 +45,13 @@ signs = name (codes "x") false ∷ mark m.Assign false ∷ mark m.Minus false �
 
 abbrev pub signs_tree : Script
 signs_tree = Tree.MoreStmts (Tree.Do (Tree.Assign None (Tree.Ident (codes "x")) (Tree.Binary b.Add (Tree.Prefix p.Minus (Tree.Prefix p.Minus (Tree.Ident (codes "a")))) (Tree.Prefix p.Plus (Tree.Num 31))))) Tree.NoStmts
+
+-- `a+ ++b- --c;d++ +e`
+abbrev pub signs_apart : Symbols
+signs_apart = name (codes "a") false ∷ mark m.Plus false ∷ mark m.PlusPlus false ∷ name (codes "b") false ∷ mark m.Minus false ∷ mark m.MinusMinus false ∷ name (codes "c") false ∷ mark m.Semicolon false ∷ name (codes "d") false ∷ mark m.PlusPlus false ∷ mark m.Plus false ∷ name (codes "e") false ∷ end false ∷ []
+
+abbrev pub signs_apart_tree : Script
+signs_apart_tree = Tree.MoreStmts (Tree.Do (Tree.Binary b.Subtract (Tree.Binary b.Add (Tree.Ident (codes "a")) (Tree.Prefix p.Increment (Tree.Ident (codes "b")))) (Tree.Prefix p.Decrement (Tree.Ident (codes "c"))))) (Tree.MoreStmts (Tree.Do (Tree.Binary b.Add (Tree.Postfix (Tree.Ident (codes "d")) q.Increment) (Tree.Ident (codes "e")))) Tree.NoStmts)
 
 -- `new (a().b)(1)`
 abbrev pub new_called : Symbols

@@ -16,6 +16,7 @@ pub fn accepted_texts()
     ensures returned_line { rows.IsWorked Source (source_limits 65535) rows.returned_line rows.returned_line_tree (codes "function f(){return;x;}\n") }
     ensures called_line { rows.IsWorked Source (source_limits 65535) rows.called_line rows.called_line_tree (codes "a(b);\n") }
     ensures signs { rows.IsWorked Source (source_limits 65535) rows.signs rows.signs_tree (codes "x=- -a+ +31;\n") }
+    ensures signs_apart { rows.IsWorked Source (source_limits 65535) rows.signs_apart rows.signs_apart_tree (codes "a+ ++b- --c;d+++e;\n") }
     ensures new_called { rows.IsWorked Source (source_limits 65535) rows.new_called rows.new_called_tree (codes "new(a().b)(1);\n") }
     ensures literals { rows.IsWorked Source (source_limits 65535) rows.literals rows.literals_tree (codes "var a=[1,,2],o={\"if\":1,b:2};\n") }
     ensures in_header { rows.IsWorked Source (source_limits 65535) rows.in_header rows.in_header_tree (codes "for(var i=(1 in x);;);\n") }

@@ -13,6 +13,9 @@ returns-clause-called_line c = worked.called_line
 pub returns-clause-signs : goal.returns-clause-signs
 returns-clause-signs c = worked.signs
 
+pub returns-clause-signs_apart : goal.returns-clause-signs_apart
+returns-clause-signs_apart c = worked.signs_apart
+
 pub returns-clause-new_called : goal.returns-clause-new_called
 returns-clause-new_called c = worked.new_called
 
