@@ -4,3 +4,6 @@ pub mod Refusing
 pub mod Levels
 pub mod FormalLists
 pub mod Ending
+pub mod ReadingBack
+pub mod Starting
+pub mod Keys

@@ -324,7 +324,7 @@ mutual
   expression {form = form} (g.binary op c h may x y) = linked (of_kind (sign op) c) (expression x) (sign-no-name op) (sign-stands form op) (expression y)
   expression (g.conditional c d h x y other) =
       linked (mark m.Question c) (expression x) refl refl (linked (mark m.Colon d) (expression y) refl refl (expression other))
-  expression (g.assign op equals c h eq x t y) = linked (mark equals c) (expression x) refl refl (expression y)
+  expression (g.assign op joint c h eq x t y) = linked (mark joint c) (expression x) refl refl (expression y)
   expression (g.comma c h x y) = linked (mark m.Comma c) (expression x) refl refl (expression y)
 
   callee : {form : Form} {i : Bool} {u : Symbols} {x : Expr} → NewCallee form i u x → Placed form false u

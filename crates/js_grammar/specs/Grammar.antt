@@ -92,8 +92,8 @@ mutual
     conditional : {i : Bool} {l : ℕ} {u v z : Symbols} {x y other : Expr} (b c : Bool) → l ≤ 3 → Expression form i 4 u x → Expression form true 2 v y → Expression form i 2 z other
         → Expression form i l (u ++ (mark m.Question b ∷ (v ++ (mark m.Colon c ∷ z)))) (Tree.Cond x y other)
     -- 11.13
-    assign : {i : Bool} {l : ℕ} {u v : Symbols} {x y : Expr} (op : Option BinaryOp) (equals : Mark) (b : Bool) → l ≤ 2 → assignment op ≡ Some equals
-        → Expression form i 16 u x → is_target x ≡ true → Expression form i 2 v y → Expression form i l (u ++ (mark equals b ∷ v)) (Tree.Assign op x y)
+    assign : {i : Bool} {l : ℕ} {u v : Symbols} {x y : Expr} (op : Option BinaryOp) (joint : Mark) (b : Bool) → l ≤ 2 → assignment op ≡ Some joint
+        → Expression form i 16 u x → is_target x ≡ true → Expression form i 2 v y → Expression form i l (u ++ (mark joint b ∷ v)) (Tree.Assign op x y)
     -- 11.14
     comma : {i : Bool} {l : ℕ} {u v : Symbols} {x y : Expr} (b : Bool) → l ≤ 1 → Expression form i 1 u x → Expression form i 2 v y
         → Expression form i l (u ++ (mark m.Comma b ∷ v)) (Tree.Comma x y)

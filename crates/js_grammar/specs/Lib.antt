@@ -14,3 +14,4 @@ pub mod Rows
 pub mod WellPlaced
 pub mod Laws
 pub mod RefusedRows
+pub mod ReadsBack

@@ -1,6 +1,7 @@
 //! Laws over the definitions: these calls do nothing, and each says a law of the grammar.
 
 ghost use Rattle.js_grammar.specs.Laws as law;
+ghost use Rattle.js_grammar.specs.ReadsBack as back;
 
 /// An expression of a level is one of each lower level.
 pub fn levels_go_down()
@@ -49,4 +50,9 @@ pub fn none_is_inserted_where_the_next_fits()
 /// Where the operator `in` may not stand, an operation with it is in parentheses.
 pub fn in_is_in_parentheses()
     ensures { law.InIsInParentheses }
+{}
+
+/// The tokens that the tree of a script is written with are a script of this tree.
+pub fn printed_tokens_read_back()
+    ensures { back.PrintedTokensReadBack }
 {}
