@@ -7,3 +7,5 @@ pub mod Ending
 pub mod ReadingBack
 pub mod Starting
 pub mod Keys
+pub mod Breaking
+pub mod Counting

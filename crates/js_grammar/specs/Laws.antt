@@ -1,5 +1,5 @@
 -- What holds of every expression, statement and script of the grammar.
-use Rattle.std.specs.Prelude.{ℕ, ◌≡◌, ◌≢◌, ◌≤◌, ◌||◌, Bool, true, false, List, [], ◌∷◌}
+use Rattle.std.specs.Prelude.{ℕ, ◌≡◌, ◌≢◌, ◌≤◌, ◌||◌, Bool, true, false, List, [], ◌∷◌, length}
 use Rattle.js_lexer.specs.declared.mark.Mark.TheVariants as m
 use Rattle.js_lexer.specs.declared.word.Word.TheVariants as w
 use Rattle.js_lexer.specs.declared.token.TokenKind.{TokenKind}
@@ -8,13 +8,15 @@ use Rattle.js_tree.specs.declared.tree.BinaryOp.TheVariants as b
 use Rattle.js_tree.specs.Tree
 use Rattle.js_tree.specs.Tree.{Name, Expr, Exprs, Stmt, VarItems, Func, Stmts, Script, MaybeStmt}
 use Rattle.js_grammar.specs.declared.form.Form.{Form}
-use Rattle.js_grammar.specs.Symbols.{Symbol, Symbols}
+use Rattle.js_grammar.specs.Symbols.{Symbol, Symbols, symbols}
 use Rattle.js_grammar.specs.Operators.{is_target}
 use Rattle.js_grammar.specs.Contexts.{Context}
 use Rattle.js_grammar.specs.Ends.{ends_changed}
 use Rattle.js_grammar.specs.Grammar.{Formals, Expression, ArgumentList, Arguments, DeclaratorList, FunctionRest, Statement, SourceElement}
-use Rattle.js_grammar.specs.Accepted.{Derives}
-use Rattle.js_grammar.specs.Fault.{Begins}
+use Rattle.js_lexer.specs.declared.token.Token.{Token}
+use Rattle.js_tree.specs.Numbering.{in_stmts}
+use Rattle.js_grammar.specs.Accepted.{Derives, IsUnlimited, functions_in, opened}
+use Rattle.js_grammar.specs.Fault.{Begins, Breaks}
 use Rattle.js_grammar.specs.WellPlaced.{are_placed}
 
 -- an expression of a level is one of each lower level
@@ -107,3 +109,25 @@ begins_in_parentheses (s ∷ ss) = opens s.kind
 -- Where the operator `in` may not stand, an operation with it is in parentheses.
 abbrev pub InIsInParentheses : Type 0
 InIsInParentheses = (form : Form) (l : ℕ) (u : Symbols) (x : Expr) → Expression form false l u x → is_in_operation x ≡ true → begins_in_parentheses u ≡ true
+
+-- A script that is accepted without limits has no breaking token.
+abbrev pub ScriptsDoNotBreak : Type 0
+ScriptsDoNotBreak = (form : Form) (functions : ℕ) (tokens used : List Token) (token : Token) (tree : Script) → IsUnlimited form functions (symbols tokens) tree → Breaks form functions tokens used token → ⊥
+
+-- At most one token of a list is the breaking one.
+abbrev pub OneBreakingToken : Type 0
+OneBreakingToken = (form : Form) (functions : ℕ) (tokens used others : List Token) (token other : Token) → Breaks form functions tokens used token → Breaks form functions tokens others other
+    → (used ≡ others) × (token ≡ other)
+
+-- How many functions there are is told by the tokens.
+abbrev pub FunctionsAreCounted : Type 0
+FunctionsAreCounted = (form : Form) (tokens : Symbols) (tree : Script) → Derives form tokens tree → functions_in tokens ≡ length (in_stmts tree)
+
+-- the brackets that are open behind tokens, where n are open before them
+abbrev pub open_behind : ℕ → Symbols → ℕ
+open_behind n [] = n
+open_behind n (s ∷ ss) = open_behind (opened s.kind n) ss
+
+-- Each statement and each declaration of a script closes the brackets that it opens.
+abbrev pub BracketsAreClosed : Type 0
+BracketsAreClosed = (form : Form) (c : Context) (u : Symbols) (next : Symbol) (s : Stmt) → SourceElement form c u next s → (n : ℕ) → open_behind n u ≡ n

@@ -56,3 +56,23 @@ pub fn in_is_in_parentheses()
 pub fn printed_tokens_read_back()
     ensures { back.PrintedTokensReadBack }
 {}
+
+/// A script that is accepted without limits has no breaking token.
+pub fn scripts_do_not_break()
+    ensures { law.ScriptsDoNotBreak }
+{}
+
+/// At most one token of a list is the breaking one.
+pub fn one_breaking_token()
+    ensures { law.OneBreakingToken }
+{}
+
+/// A script has as many functions as words `function`.
+pub fn functions_are_counted()
+    ensures { law.FunctionsAreCounted }
+{}
+
+/// Each statement and each declaration of a script closes the brackets that it opens.
+pub fn brackets_are_closed()
+    ensures { law.BracketsAreClosed }
+{}
