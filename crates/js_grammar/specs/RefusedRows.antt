@@ -9,6 +9,9 @@ use Rattle.js_lexer.specs.declared.token.TokenKind.TheVariants as k
 use Rattle.js_tree.specs.declared.tree.PrefixOp.TheVariants as p
 use Rattle.js_tree.specs.Tree.{Expr, Script}
 use Rattle.js_tree.specs.Tree
+use Rattle.js_grammar.specs.declared.form.Limits.{Limits}
+use Rattle.js_grammar.specs.Symbols.{word, mark, name}
+use Rattle.js_grammar.specs.Fault.{Answer, answer}
 
 abbrev pub place : ℕ → ℕ → Place
 place line column = record { line = line; column = column }
@@ -43,3 +46,14 @@ not_tree (suc n) = Tree.Prefix p.Not (not_tree n)
 
 abbrev pub nots_tree : ℕ → Script
 nots_tree n = Tree.MoreStmts (Tree.Do (not_tree n)) Tree.NoStmts
+
+-- `((with`, which `((` begins within no limit of one bracket
+abbrev pub brackets : List Token
+brackets = token (k.Mark m.OpenParenthesis) 0 1 1 1 false ∷ token (k.Mark m.OpenParenthesis) 1 2 1 2 false ∷ token (k.Word w.With) 2 6 1 3 false ∷ token k.End 6 6 1 7 false ∷ []
+
+abbrev pub one_bracket : Limits
+one_bracket = record { depth = 400; nesting = 64; brackets = 1; functions = 65535 }
+
+-- what is told of a token behind the tokens `function f(a`, if it is the breaking one
+abbrev pub told : TokenKind → Answer
+told kind = answer 2 (word w.Function false ∷ name (codes "f") false ∷ mark m.OpenParenthesis false ∷ name (codes "a") false ∷ []) (token kind 0 0 1 1 false)

@@ -1,6 +1,9 @@
 //! Worked texts: these calls do nothing, and each says the tokens of a text, its tree and what the tree is written as.
 
-ghost use Rattle.std.specs.Prelude.{codes};
+ghost use Rattle.std.specs.Prelude.{◌≡◌, codes};
+ghost use Rattle.js_lexer.specs.declared.mark.Mark.TheVariants as m;
+ghost use Rattle.js_lexer.specs.declared.word.Word.TheVariants as w;
+ghost use Rattle.js_lexer.specs.declared.token.TokenKind.TheVariants as k;
 ghost use Rattle.js_grammar.specs.declared.form.Form.TheVariants.{Source, Written};
 ghost use Rattle.js_grammar.specs.Accepted.{Accepted, source_limits, written_limits};
 ghost use Rattle.js_grammar.specs.Symbols.{symbols};
@@ -40,4 +43,27 @@ pub fn refused_texts()
     ensures two_functions { Fault Source (source_limits 1) refused.two_functions (TooMany (place 1 15)) }
     ensures nots_accepted { Accepted Source (source_limits 65535) (symbols (refused.nots 398 0)) (refused.nots_tree 398) }
     ensures nots_refused { Fault Source (source_limits 65535) (refused.nots 399 0) (TooDeep (place 1 1)) }
+    ensures spent { Fault Source refused.one_bracket refused.brackets (TooDeep (place 1 1)) }
+    ensures not_only_spent { Fault Source refused.one_bracket refused.brackets (Refused (place 1 3) c.With) }
+{}
+
+/// What is told of a token behind `function f(a`, where it is the breaking one.
+pub fn told_tokens()
+    ensures with_is { refused.told (k.Word w.With) ≡ Refused (place 1 1) c.With }
+    ensures debugger_is { refused.told (k.Word w.Debugger) ≡ Refused (place 1 1) c.Debugger }
+    ensures slash_is { refused.told (k.Mark m.Slash) ≡ Refused (place 1 1) c.RegExp }
+    ensures slash_assign_is { refused.told (k.Mark m.SlashAssign) ≡ Refused (place 1 1) c.RegExp }
+    ensures own_text_is { refused.told (k.Str (codes "$dl_x")) ≡ Refused (place 1 1) c.DlName }
+    ensures own_is { refused.told (k.Name (codes "$dl_x")) ≡ Refused (place 1 1) c.DlName }
+    ensures eval_is { refused.told (k.Name (codes "eval")) ≡ Refused (place 1 1) c.Eval }
+    ensures function_name_is { refused.told (k.Name (codes "Function")) ≡ Refused (place 1 1) c.FunctionName }
+    ensures infinity_is { refused.told (k.Name (codes "Infinity")) ≡ Refused (place 1 1) c.InfinityName }
+    ensures arguments_is { refused.told (k.Name (codes "arguments")) ≡ Refused (place 1 1) c.Arguments }
+    ensures callee_is { refused.told (k.Name (codes "callee")) ≡ Refused (place 1 1) c.Callee }
+    ensures caller_is { refused.told (k.Name (codes "caller")) ≡ Refused (place 1 1) c.Caller }
+    ensures function_is { refused.told (k.Word w.Function) ≡ Refused (place 1 1) c.FunctionPlace }
+    ensures earlier_formal_is { refused.told (k.Name (codes "a")) ≡ Refused (place 1 1) c.RepeatedFormal }
+    ensures later_word_is { refused.told (k.Word w.Class) ≡ Syntax (place 1 1) }
+    ensures other_name_is { refused.told (k.Name (codes "b")) ≡ Syntax (place 1 1) }
+    ensures end_is { refused.told k.End ≡ Syntax (place 1 1) }
 {}

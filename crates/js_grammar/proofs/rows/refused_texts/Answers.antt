@@ -18,3 +18,9 @@ returns-clause-nots_accepted c = worked.nots_accepted
 
 pub returns-clause-nots_refused : goal.returns-clause-nots_refused
 returns-clause-nots_refused c = worked.nots_refused
+
+pub returns-clause-spent : goal.returns-clause-spent
+returns-clause-spent c = worked.spent
+
+pub returns-clause-not_only_spent : goal.returns-clause-not_only_spent
+returns-clause-not_only_spent c = worked.not_only_spent
