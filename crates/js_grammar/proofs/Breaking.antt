@@ -1,17 +1,20 @@
 -- Breaking tokens.
-use Rattle.std.proofs.Common.{◌≡◌, ◌≢◌, ℕ, suc, ◌+◌, ◌<◌, ◌≤◌, List, [], ◌∷◌, ◌++◌, length, map, refl, ap, sym, ◌∙◌, subst}
+use Rattle.std.proofs.Common.{◌≡◌, ℕ, List, [], ◌∷◌, ◌++◌, refl, ap, sym, ◌∙◌, subst}
 use Rattle.std.proofs.lemmas.List.{append-nil, append_assoc, map-append}
 use Rattle.js_lexer.specs.declared.token.Token.{Token}
 use Rattle.js_tree.specs.Tree.{Script}
 use Rattle.js_grammar.specs.declared.form.Form.{Form}
-use Rattle.js_grammar.specs.Symbols.{Symbols, symbol, symbols}
+use Rattle.js_grammar.specs.Symbols.{symbol, symbols}
 use Rattle.js_grammar.specs.Accepted.{IsUnlimited}
 use Rattle.js_grammar.specs.Fault.{Begins, Breaks}
 
 -- what begins a script is begun by each of its fronts
 fronts : (form : Form) (functions : ℕ) (u v : List Token) → Begins form functions (symbols (u ++ v)) → Begins form functions (symbols u)
-fronts form functions u v h = record { more = symbols v ++ h.more; tree = h.tree;
-  unlimited = subst (λ t. IsUnlimited form functions t h.tree) (ap (λ t. t ++ h.more) (map-append symbol u v) ∙ append_assoc (symbols u) (symbols v) h.more) h.unlimited }
+fronts form functions u v h = record {
+  more = symbols v ++ h.more;
+  tree = h.tree;
+  unlimited = subst (λ t. IsUnlimited form functions t h.tree) (ap (λ t. t ++ h.more) (map-append symbol u v) ∙ append_assoc (symbols u) (symbols v) h.more) h.unlimited;
+}
 
 whole : (form : Form) (functions : ℕ) (u : List Token) (tree : Script) → IsUnlimited form functions (symbols u) tree → Begins form functions (symbols u)
 whole form functions u tree h = record { more = []; tree = tree; unlimited = subst (λ t. IsUnlimited form functions t tree) (sym (append-nil (symbols u))) h }
@@ -19,7 +22,7 @@ whole form functions u tree h = record { more = []; tree = tree; unlimited = sub
 pub not_broken : (form : Form) (functions : ℕ) (tokens used : List Token) (token : Token) (tree : Script) → IsUnlimited form functions (symbols tokens) tree → Breaks form functions tokens used token → ⊥
 not_broken form functions tokens used token tree h b =
     b.ends (fronts form functions (used ++ (token ∷ [])) b.rest
-      (subst (λ t. Begins form functions (symbols t)) (b.whole ∙ sym (append_assoc used (token ∷ []) b.rest)) (whole form functions tokens tree h)))
+    (subst (λ t. Begins form functions (symbols t)) (b.whole ∙ sym (append_assoc used (token ∷ []) b.rest)) (whole form functions tokens tree h)))
 
 abbrev head : Token → List Token → Token
 head t [] = t

@@ -1,5 +1,5 @@
 -- The functions and the brackets of a script are told by its tokens.
-use Rattle.std.proofs.Common.{if◌then◌else◌, ◌≡◌, ℕ, suc, ◌+◌, ◌-◌, Bool, true, false, List, [], ◌∷◌, ◌++◌, Option, Some, None, length, refl, ap, sym, ◌∙◌, subst, arith}
+use Rattle.std.proofs.Common.{◌≡◌, ℕ, suc, ◌+◌, Bool, false, List, [], ◌∷◌, ◌++◌, Option, Some, None, length, refl, ap, sym, ◌∙◌, subst, arith}
 use Rattle.std.proofs.lemmas.List.{append-nil, append_assoc, length-append}
 use Rattle.js_lexer.specs.declared.mark.Mark.{Mark}
 use Rattle.js_lexer.specs.declared.mark.Mark.TheVariants as m
@@ -13,7 +13,6 @@ use Rattle.js_tree.specs.declared.tree.PrefixOp.TheVariants as p
 use Rattle.js_tree.specs.declared.tree.PostfixOp.{PostfixOp}
 use Rattle.js_tree.specs.declared.tree.PostfixOp.TheVariants as q
 use Rattle.js_tree.specs.Tree.{Name, Expr, Exprs, MaybeExpr, Elements, Pairs, Stmt, Stmts, VarItems, Cases, ForInit, Func, Script}
-use Rattle.js_tree.specs.Tree
 use Rattle.js_tree.specs.Numbering.{in_expr, in_exprs, in_maybe_expr, in_elements, in_pairs, in_stmt, in_stmts, in_var_items, in_cases, in_for_init}
 use Rattle.js_grammar.specs.declared.form.Form.{Form}
 use Rattle.js_grammar.specs.Symbols.{Symbol, Symbols, of_kind, word, mark, name, end}
@@ -63,7 +62,8 @@ open-join n (s ∷ u) v = open-join (opened s.kind n) u v
 join : {u v : Symbols} {fs gs : List Func} → Counts u fs → Counts v gs → Counts (u ++ v) (fs ++ gs)
 join {u = u} {v = v} {fs = fs} {gs = gs} h i = record {
   functions = let a = h.functions in let c = i.functions in functions-join u v ∙ ap (λ n. n + functions_in v) a ∙ ap (λ n. length fs + n) c ∙ sym (length-append fs gs);
-  closed = λ n. open-join n u v ∙ ap (λ a. open_behind a v) (h.closed n) ∙ i.closed n }
+  closed = λ n. open-join n u v ∙ ap (λ a. open_behind a v) (h.closed n) ∙ i.closed n;
+}
 
 trailing : {u : Symbols} {fs : List Func} → Counts u fs → Counts u (fs ++ [])
 trailing {u = u} {fs = fs} h = subst (λ gs. Counts u gs) (sym (append-nil fs)) h
@@ -99,7 +99,8 @@ paired {s = s} t u v {fs = fs} {gs = gs} p h i = record {
   functions = let a = h.functions in let c = i.functions in
       p.open_counts (functions_in (u ++ (t ∷ v))) ∙ functions-join u (t ∷ v) ∙ ap (λ n. functions_in u + n) (p.close_counts (functions_in v)) ∙ ap (λ n. n + functions_in v) a ∙ ap (λ n. length fs + n) c ∙ sym (length-append fs gs);
   closed = λ n. ap (λ a. open_behind a (u ++ (t ∷ v))) (p.open_opens n) ∙ open-join (suc n) u (t ∷ v) ∙ ap (λ a. open_behind (opened t.kind a) v) (h.closed (suc n))
-    ∙ ap (λ a. open_behind a v) (p.close_closes n) ∙ i.closed n }
+      ∙ ap (λ a. open_behind a v) (p.close_closes n) ∙ i.closed n;
+}
 
 -- nothing behind them
 pair : {s : Symbol} (t : Symbol) (u : Symbols) {fs : List Func} → IsPair s.kind t.kind → Counts u fs → Counts (s ∷ (u ++ (t ∷ []))) fs
@@ -215,14 +216,14 @@ headed : {a : Bool} (z : Bool) (u : Symbols) (s : Symbol) (v body : Symbols) {fs
     → Counts (mark m.OpenParenthesis a ∷ (u ++ (s ∷ (v ++ (mark m.CloseParenthesis z ∷ body))))) (fs ++ (gs ++ hs))
 headed {a = a} z u s v body {fs = fs} {gs = gs} {hs = hs} h p i j =
     subst (λ t. Counts (mark m.OpenParenthesis a ∷ t) (fs ++ (gs ++ hs))) (append_assoc u (s ∷ v) (mark m.CloseParenthesis z ∷ body))
-      (subst (λ t. Counts (mark m.OpenParenthesis a ∷ ((u ++ (s ∷ v)) ++ (mark m.CloseParenthesis z ∷ body))) t) (append_assoc fs gs hs) (paired _ (u ++ (s ∷ v)) body parentheses (linked s h p i) j))
+    (subst (λ t. Counts (mark m.OpenParenthesis a ∷ ((u ++ (s ∷ v)) ++ (mark m.CloseParenthesis z ∷ body))) t) (append_assoc fs gs hs) (paired _ (u ++ (s ∷ v)) body parentheses (linked s h p i) j))
 
 for-headed : {a : Bool} (z first second : Bool) (u v y body : Symbols) {fs gs hs ks : List Func} → Counts u fs → Counts v gs → Counts y hs → Counts body ks
     → Counts (mark m.OpenParenthesis a ∷ (u ++ (mark m.Semicolon first ∷ (v ++ (mark m.Semicolon second ∷ (y ++ (mark m.CloseParenthesis z ∷ body))))))) (fs ++ (gs ++ (hs ++ ks)))
 for-headed {a = a} z first second u v y body {fs = fs} {gs = gs} {hs = hs} {ks = ks} h i j o =
     subst (λ t. Counts (mark m.OpenParenthesis a ∷ (u ++ (mark m.Semicolon first ∷ t))) (fs ++ (gs ++ (hs ++ ks)))) (append_assoc v (mark m.Semicolon second ∷ y) (mark m.CloseParenthesis z ∷ body))
-      (subst (λ t. Counts (mark m.OpenParenthesis a ∷ (u ++ (mark m.Semicolon first ∷ ((v ++ (mark m.Semicolon second ∷ y)) ++ (mark m.CloseParenthesis z ∷ body))))) (fs ++ t)) (append_assoc gs hs ks)
-        (headed z u (mark m.Semicolon first) (v ++ (mark m.Semicolon second ∷ y)) body h (mere (λ n. refl) (λ n. refl)) (linked (mark m.Semicolon second) i (mere (λ n. refl) (λ n. refl)) j) o))
+    (subst (λ t. Counts (mark m.OpenParenthesis a ∷ (u ++ (mark m.Semicolon first ∷ ((v ++ (mark m.Semicolon second ∷ y)) ++ (mark m.CloseParenthesis z ∷ body))))) (fs ++ t)) (append_assoc gs hs ks)
+    (headed z u (mark m.Semicolon first) (v ++ (mark m.Semicolon second ∷ y)) body h (mere (λ n. refl) (λ n. refl)) (linked (mark m.Semicolon second) i (mere (λ n. refl) (λ n. refl)) j) o))
 
 mutual
   expression : {form : Form} {i : Bool} {l : ℕ} {u : Symbols} {x : Expr} → Expression form i l u x → Counts u (in_expr x)

@@ -1,5 +1,5 @@
 -- How statements end, and where the operator `in` stands.
-use Rattle.std.proofs.Common.{◌≡◌, ◌≢◌, ℕ, ◌≤◌, Bool, true, false, ◌||◌, List, [], ◌∷◌, ◌++◌, refl, ap, sym, ◌∙◌, subst, arith}
+use Rattle.std.proofs.Common.{◌≡◌, ℕ, Bool, true, false, ◌||◌, [], ◌∷◌, ◌++◌, refl, ap, sym, subst, arith}
 use Rattle.js_lexer.specs.declared.mark.Mark.TheVariants as m
 use Rattle.js_lexer.specs.declared.word.Word.TheVariants as w
 use Rattle.js_lexer.specs.declared.token.TokenKind.{TokenKind}
@@ -15,7 +15,7 @@ use Rattle.js_grammar.specs.Ends.{Ends, reach, kind_reach, unless, ends_changed}
 use Rattle.js_grammar.specs.Ends as e
 use Rattle.js_grammar.specs.Grammar.{Expression, Block, Statement}
 use Rattle.js_grammar.specs.Grammar as g
-use Rattle.js_grammar.specs.Laws.{ends_in_if, goes_on, is_semicolon, ends_with_semicolon, is_in_operation, opens, begins_in_parentheses}
+use Rattle.js_grammar.specs.Laws.{ends_in_if, goes_on, ends_with_semicolon, is_in_operation, begins_in_parentheses}
 
 -- ---- `else`
 

@@ -1,10 +1,10 @@
 -- The formals of a function are told by their tokens.
-use Rattle.std.proofs.Common.{◌≡◌, ℕ, List, [], ◌∷◌, ◌++◌, refl, ap, sym, ◌∙◌}
+use Rattle.std.proofs.Common.{◌≡◌, List, [], ◌∷◌, refl, ap, sym, ◌∙◌}
 use Rattle.js_lexer.specs.declared.token.TokenKind.{TokenKind}
 use Rattle.js_lexer.specs.declared.token.TokenKind.TheVariants as k
 use Rattle.js_tree.specs.Tree.{Name}
 use Rattle.js_grammar.specs.declared.form.Form.{Form}
-use Rattle.js_grammar.specs.Symbols.{Symbol, Symbols}
+use Rattle.js_grammar.specs.Symbols.{Symbols}
 use Rattle.js_grammar.specs.Grammar.{Formals}
 use Rattle.js_grammar.specs.Grammar as g
 

@@ -1,5 +1,5 @@
 -- A key is read back from the token that it is written as.
-use Rattle.std.proofs.Common.{if◌then◌else◌, cond, map, ◌≡◌, ◌≢◌, ℕ, zero, suc, ◌+◌, ◌/◌, ◌%◌, ◌<◌, ◌≤◌, ◌==◌, nat_lt, nat_le, Bool, true, false, not, ◌&&◌, ◌||◌, List, [], ◌∷◌, ◌++◌, Option, Some, None, is_none, drop, length, codes, refl, ap, sym, ◌∙◌, subst, arith}
+use Rattle.std.proofs.Common.{if◌then◌else◌, cond, map, ◌≡◌, ◌≢◌, ℕ, zero, suc, ◌+◌, ◌/◌, ◌%◌, ◌<◌, ◌==◌, nat_lt, nat_le, Bool, true, false, not, ◌&&◌, ◌||◌, List, [], ◌∷◌, ◌++◌, Some, None, is_none, drop, length, codes, refl, ap, sym, ◌∙◌, subst, arith}
 use Rattle.std.specs.List.{list_all, find}
 use Rattle.std.specs.Fmt.{decimal, digits, digits_onto, digit_glyph}
 use Rattle.std.specs.Int.{is_in_range}
@@ -16,7 +16,6 @@ use Rattle.js_lexer.specs.declared.token.TokenKind.{TokenKind}
 use Rattle.js_lexer.specs.declared.token.TokenKind.TheVariants as k
 use Rattle.js_tree.specs.Tree.{Name}
 use Rattle.js_grammar.specs.declared.form.Form.{Form}
-use Rattle.js_grammar.specs.declared.form.Form.TheVariants.{Source, Written}
 use Rattle.js_grammar.specs.Names.{key_of, may_stand, is_own, is_cell, is_written, is_numeral, is_function_number}
 use Rattle.js_grammar.specs.Printed.{key_kind}
 
@@ -160,7 +159,7 @@ ascii [] h = refl
 ascii (u ∷ []) h = ap (λ a. (if a && nat_lt u 0xE000 then None else Some u) ∷ []) (below u (left (nat_lt u 128) true h))
 ascii (u ∷ v ∷ us) h =
     ap (λ a. if (a && nat_lt u 0xDC00) && is_low_surrogate v then Some (surrogate_pair_char u v) ∷ utf16_chars us else (if a && nat_lt u 0xE000 then None else Some u) ∷ utf16_chars (v ∷ us))
-      (below u (left (nat_lt u 128) (list_all (λ u. nat_lt u 128) (v ∷ us)) h))
+    (below u (left (nat_lt u 128) (list_all (λ u. nat_lt u 128) (v ∷ us)) h))
     ∙ ap (λ cs. Some u ∷ cs) (ascii (v ∷ us) (right (nat_lt u 128) (list_all (λ u. nat_lt u 128) (v ∷ us)) h))
 
 digit_small : (c : ℕ) → is_digit c ≡ true → c < 128
@@ -189,10 +188,10 @@ cell_text_is_name : (ds : List ℕ) → list_all is_digit ds ≡ true → (is_na
 unfolding unicode_ident cell_text
 cell_text_is_name ds h =
     both (is_name (cell_text ds)) (list_all (λ unit. nat_lt unit 128) (cell_text ds))
-      (both (is_name_text (utf16_chars (cell_text ds))) (is_none (word_of (cell_text ds)))
-        (ap is_name_text (ascii (cell_text ds) (digits_ascii ds h)) ∙ digits_continue ds h)
-        (ap is_none (find_none (λ word. is_spelled (spelling word) (cell_text ds)) words (no_word (100 ∷ 108 ∷ 95 ∷ 114 ∷ ds)))))
-      (digits_ascii ds h)
+    (both (is_name_text (utf16_chars (cell_text ds))) (is_none (word_of (cell_text ds)))
+    (ap is_name_text (ascii (cell_text ds) (digits_ascii ds h)) ∙ digits_continue ds h)
+    (ap is_none (find_none (λ word. is_spelled (spelling word) (cell_text ds)) words (no_word (100 ∷ 108 ∷ 95 ∷ 114 ∷ ds)))))
+    (digits_ascii ds h)
 
 begun : (xs key : List ℕ) → begins xs key ≡ true → key ≡ xs ++ drop (length xs) key
 begun [] key h = refl
@@ -204,8 +203,8 @@ cell_is_name : (key : Name) → is_cell key ≡ true → (is_name key && list_al
 unfolding cell_text
 cell_is_name key h =
     subst (λ n. (is_name n && list_all (λ unit. nat_lt unit 128) n) ≡ true) (sym (begun (codes "$dl_r") key (left (begins (codes "$dl_r") key) (is_numeral (drop 5 key)) h)))
-      (cell_text_is_name (drop 5 key) (left (list_all is_digit (drop 5 key)) (not (first_is (λ c. nat_le c 48) (drop 5 key)) && is_function_number (number_of 10 (drop 5 key)))
-        (right (begins (codes "$dl_r") key) (is_numeral (drop 5 key)) h)))
+    (cell_text_is_name (drop 5 key) (left (list_all is_digit (drop 5 key)) (not (first_is (λ c. nat_le c 48) (drop 5 key)) && is_function_number (number_of 10 (drop 5 key)))
+    (right (begins (codes "$dl_r") key) (is_numeral (drop 5 key)) h)))
 
 owned : (form : Form) (key : Name) (a : Bool) → is_own key ≡ a → may_stand form key ≡ true → key_of form (key_kind key) ≡ Some key
 owned form key false h may = either form key (is_name key && list_all (λ unit. nat_lt unit 128) key) h

@@ -1,13 +1,11 @@
 -- Levels of expressions, and what has tokens.
-use Rattle.std.proofs.Common.{◌≡◌, ◌≢◌, ℕ, suc, ◌≤◌, Bool, true, false, List, [], ◌∷◌, ◌++◌, Option, Some, None, refl, ap, sym, ◌∙◌, subst, arith, lit≤}
+use Rattle.std.proofs.Common.{◌≡◌, ◌≢◌, ℕ, ◌≤◌, Bool, true, false, [], ◌∷◌, ◌++◌, refl, ap, arith, lit≤}
 use Rattle.js_tree.specs.declared.tree.BinaryOp.TheVariants as b
-use Rattle.js_tree.specs.Tree.{Name, Expr, Exprs, Stmt, VarItems}
-use Rattle.js_tree.specs.Tree
+use Rattle.js_tree.specs.Tree.{Expr, Exprs, Stmt, VarItems}
 use Rattle.js_grammar.specs.declared.form.Form.{Form}
 use Rattle.js_grammar.specs.Symbols.{Symbol, Symbols}
 use Rattle.js_grammar.specs.Operators.{Operator, LogicalOr, LogicalAnd, Operation, joined, may_operate, is_target}
 use Rattle.js_grammar.specs.Contexts.{Context}
-use Rattle.js_grammar.specs.Ends.{Ends}
 use Rattle.js_grammar.specs.Grammar.{Formals, Expression, NewCallee, Arguments, ArgumentList, DeclaratorList, Declarator, Block, Statement, SourceElement}
 use Rattle.js_grammar.specs.Grammar as g
 
@@ -115,46 +113,45 @@ mutual
 
 -- ---- tokens
 
-abbrev is_empty : Symbols → Bool
+abbrev pub is_empty : Symbols → Bool
 is_empty [] = true
 is_empty (s ∷ ss) = false
 
 -- more tokens follow
-more : (u : Symbols) (s : Symbol) (v : Symbols) → is_empty (u ++ (s ∷ v)) ≡ false
+pub more : (u : Symbols) (s : Symbol) (v : Symbols) → is_empty (u ++ (s ∷ v)) ≡ false
 more [] s v = refl
 more (t ∷ u) s v = refl
 
-some : (u v : Symbols) → is_empty u ≡ false → is_empty (u ++ v) ≡ false
+pub some : (u v : Symbols) → is_empty u ≡ false → is_empty (u ++ v) ≡ false
 some [] v h = cc
 some (t ∷ u) v h = refl
 
-mutual
-  expression-tokens : {form : Form} {i : Bool} {l : ℕ} {u : Symbols} {x : Expr} → Expression form i l u x → is_empty u ≡ false
-  expression-tokens (g.this c h) = refl
-  expression-tokens (g.identifier c h r) = refl
-  expression-tokens (g.null c h) = refl
-  expression-tokens (g.truth c h) = refl
-  expression-tokens (g.falsehood c h) = refl
-  expression-tokens (g.numeral c h) = refl
-  expression-tokens (g.literal c h) = refl
-  expression-tokens (g.array c d h es) = refl
-  expression-tokens (g.object c d h ps) = refl
-  expression-tokens (g.parenthesised c d h x) = refl
-  expression-tokens (g.function c h f) = refl
-  expression-tokens (g.named_function c d h r f) = refl
-  expression-tokens (g.late c1 c2 c3 c4 c5 c6 c7 h w n) = refl
-  expression-tokens (g.dot {u = u} o c d h1 h2 h x r) = more u _ _
-  expression-tokens (g.index {u = u} o c d h1 h2 h x y) = more u _ _
-  expression-tokens (g.call {u = u} {v = v} h x xs) = some u v (expression-tokens x)
-  expression-tokens (g.new c h x xs) = refl
-  expression-tokens (g.bare_new c h x) = refl
-  expression-tokens (g.postfix {u = u} op h x t) = more u _ _
-  expression-tokens (g.prefix op c h n x) = refl
-  expression-tokens (g.changed op c h n x t) = refl
-  expression-tokens (g.binary {u = u} op c h m x y) = more u _ _
-  expression-tokens (g.conditional {u = u} c d h x y z) = more u _ _
-  expression-tokens (g.assign {u = u} op e c h a x t y) = more u _ _
-  expression-tokens (g.comma {u = u} c h x y) = more u _ _
+pub expression-tokens : {form : Form} {i : Bool} {l : ℕ} {u : Symbols} {x : Expr} → Expression form i l u x → is_empty u ≡ false
+expression-tokens (g.this c h) = refl
+expression-tokens (g.identifier c h r) = refl
+expression-tokens (g.null c h) = refl
+expression-tokens (g.truth c h) = refl
+expression-tokens (g.falsehood c h) = refl
+expression-tokens (g.numeral c h) = refl
+expression-tokens (g.literal c h) = refl
+expression-tokens (g.array c d h es) = refl
+expression-tokens (g.object c d h ps) = refl
+expression-tokens (g.parenthesised c d h x) = refl
+expression-tokens (g.function c h f) = refl
+expression-tokens (g.named_function c d h r f) = refl
+expression-tokens (g.late c1 c2 c3 c4 c5 c6 c7 h w n) = refl
+expression-tokens (g.dot {u = u} o c d h1 h2 h x r) = more u _ _
+expression-tokens (g.index {u = u} o c d h1 h2 h x y) = more u _ _
+expression-tokens (g.call {u = u} {v = v} h x xs) = some u v (expression-tokens x)
+expression-tokens (g.new c h x xs) = refl
+expression-tokens (g.bare_new c h x) = refl
+expression-tokens (g.postfix {u = u} op h x t) = more u _ _
+expression-tokens (g.prefix op c h n x) = refl
+expression-tokens (g.changed op c h n x t) = refl
+expression-tokens (g.binary {u = u} op c h m x y) = more u _ _
+expression-tokens (g.conditional {u = u} c d h x y z) = more u _ _
+expression-tokens (g.assign {u = u} op e c h a x t y) = more u _ _
+expression-tokens (g.comma {u = u} c h x y) = more u _ _
 
 argument-tokens : {form : Form} {u : Symbols} {xs : Exprs} → ArgumentList form u xs → is_empty u ≡ false
 argument-tokens (g.last_argument x) = expression-tokens x

@@ -9,3 +9,4 @@ pub mod Starting
 pub mod Keys
 pub mod Breaking
 pub mod Counting
+pub mod Tokens

@@ -1,12 +1,9 @@
 -- No token of a script is refused whatever stands around it, and no name stands directly behind another on its line.
-use Rattle.std.proofs.Common.{if◌then◌else◌, ◌≡◌, ℕ, Bool, true, false, not, ◌&&◌, ◌||◌, List, [], ◌∷◌, ◌++◌, Option, Some, None, codes, refl, ap, sym, ◌∙◌, subst}
-use Rattle.js_lexer.specs.declared.mark.Mark.{Mark}
+use Rattle.std.proofs.Common.{if◌then◌else◌, ◌≡◌, ℕ, Bool, true, false, not, ◌&&◌, ◌||◌, List, [], ◌∷◌, ◌++◌, Some, None, refl, ap, sym, ◌∙◌, subst}
 use Rattle.js_lexer.specs.declared.mark.Mark.TheVariants as m
-use Rattle.js_lexer.specs.declared.word.Word.{Word}
 use Rattle.js_lexer.specs.declared.word.Word.TheVariants as w
 use Rattle.js_lexer.specs.declared.token.TokenKind.{TokenKind}
 use Rattle.js_lexer.specs.declared.token.TokenKind.TheVariants as k
-use Rattle.js_tree.specs.declared.tree.BinaryOp.{BinaryOp}
 use Rattle.js_tree.specs.declared.tree.BinaryOp.TheVariants as b
 use Rattle.js_tree.specs.declared.tree.PrefixOp.{PrefixOp}
 use Rattle.js_tree.specs.declared.tree.PrefixOp.TheVariants as p
@@ -14,10 +11,9 @@ use Rattle.js_tree.specs.declared.tree.PostfixOp.{PostfixOp}
 use Rattle.js_tree.specs.declared.tree.PostfixOp.TheVariants as q
 use Rattle.js_tree.specs.Tree.{Name, Expr, Exprs, MaybeExpr, Elements, Pairs, Stmt, Stmts, VarItems, Cases, ForInit}
 use Rattle.js_grammar.specs.declared.form.Form.{Form}
-use Rattle.js_grammar.specs.declared.form.Form.TheVariants.{Source, Written}
-use Rattle.js_grammar.specs.Symbols.{Symbol, Symbols, of_kind, word, mark, name, number, string, first}
-use Rattle.js_grammar.specs.Operators.{Operator, LogicalOr, LogicalAnd, Operation, sign, operation_sign, prefix_sign, postfix_sign}
-use Rattle.js_grammar.specs.Names.{is_own, is_written, is_cell, may_stand, is_eval, is_function_name, is_infinity, is_arguments, is_callee, is_caller, is_reference, is_binding, is_property, key_of, get_name}
+use Rattle.js_grammar.specs.Symbols.{Symbol, Symbols, of_kind, word, mark, name, first}
+use Rattle.js_grammar.specs.Operators.{Operator, LogicalOr, LogicalAnd, Operation, sign, prefix_sign, postfix_sign}
+use Rattle.js_grammar.specs.Names.{is_own, is_written, is_cell, may_stand, is_eval, is_function_name, is_infinity, is_arguments, is_callee, is_caller, is_reference, is_binding, is_property, key_of}
 use Rattle.js_grammar.specs.Contexts.{Context}
 use Rattle.js_grammar.specs.Ends.{Ends, EndsAtOnce}
 use Rattle.js_grammar.specs.Ends as e
@@ -25,7 +21,7 @@ use Rattle.js_grammar.specs.Grammar.{Formals, Expression, NewCallee, Arguments, 
 use Rattle.js_grammar.specs.Grammar as g
 use Rattle.js_grammar.specs.Symbols.{end}
 use Rattle.js_grammar.specs.Fault.{Begins}
-use Rattle.js_grammar.specs.WellPlaced.{is_used, stands, is_name, is_name_on_line, may_come, are_placed}
+use Rattle.js_grammar.specs.WellPlaced.{stands, is_name, is_name_on_line, may_come, are_placed}
 
 both : (a c : Bool) → a ≡ true → c ≡ true → (a && c) ≡ true
 both true true h i = refl

@@ -1,5 +1,5 @@
 -- The tokens that a tree is written with derive the tree, by induction on a derivation of it.
-use Rattle.std.proofs.Common.{◌≡◌, ◌≢◌, ℕ, suc, ◌≤◌, ◌<◌, nat_lt, Bool, true, false, not, ◌&&◌, ◌||◌, List, [], ◌∷◌, ◌++◌, Option, Some, None, map, refl, ap, sym, ◌∙◌, subst, arith, lit≤}
+use Rattle.std.proofs.Common.{◌≡◌, ◌≢◌, ℕ, suc, ◌≤◌, nat_lt, Bool, true, false, not, ◌&&◌, ◌||◌, List, [], ◌∷◌, ◌++◌, Option, Some, None, refl, ap, sym, ◌∙◌, subst, arith, lit≤}
 use Rattle.std.proofs.lemmas.List.{append-nil, append_assoc, map-append}
 use Rattle.std.proofs.lemmas.Bool.{ltb-false}
 use Rattle.js_lexer.specs.declared.mark.Mark.{Mark}
@@ -12,19 +12,17 @@ use Rattle.js_tree.specs.declared.tree.BinaryOp.TheVariants as b
 use Rattle.js_tree.specs.Tree.{Name, Expr, Exprs, MaybeExpr, Elements, Pairs, Stmt, Stmts, VarItems, Cases, ForInit}
 use Rattle.js_tree.specs.Tree
 use Rattle.js_grammar.specs.declared.form.Form.{Form}
-use Rattle.js_grammar.specs.Symbols.{Symbol, Symbols, of_kind, word, mark, name, first, end}
-use Rattle.js_grammar.specs.Operators.{Operator, LogicalOr, LogicalAnd, Operation, joined, sign, level, operation_level, is_in, may_operate, is_target, changes, assignment, prefix_sign, postfix_sign}
-use Rattle.js_grammar.specs.Names.{key_of}
+use Rattle.js_grammar.specs.Symbols.{Symbol, Symbols, word, mark, name, first, end}
+use Rattle.js_grammar.specs.Operators.{Operator, LogicalOr, LogicalAnd, Operation, joined, sign, level, operation_level, may_operate, changes, assignment, postfix_sign}
 use Rattle.js_grammar.specs.Contexts.{Context}
-use Rattle.js_grammar.specs.Contexts as context
-use Rattle.js_grammar.specs.Ends.{Ends, EndsAtOnce, written, semicolon}
+use Rattle.js_grammar.specs.Ends.{written, semicolon}
 use Rattle.js_grammar.specs.Grammar.{Formals, Expression, NewCallee, Arguments, ArgumentList, ElementList, PropertyList, FunctionRest, Declarator, DeclaratorList, OptionalExpression, ForFirst, Block, Statement, StatementList, CaseClauses, SourceElement, SourceElements}
 use Rattle.js_grammar.specs.Grammar as g
 use Rattle.js_grammar.specs.Accepted.{Derives}
-use Rattle.js_grammar.specs.Printed.{Kinds, level_of, is_number, is_function, is_in_operation, has_call, enclosed, enclosed_if, needs, operand_for, operand, key_kind, assignment_mark, prefix_least, names, maybe_name, begins_as_another, expression_statement, expr, exprs, other_exprs, maybe_expr, element, elements, other_elements, pairs, other_pairs, func, stmt, stmts, else_part, handler, finally_part, for_init, for_target, var_items, other_var_items, initialiser, cases, case_head}
+use Rattle.js_grammar.specs.Printed.{Kinds, level_of, is_number, is_function, is_in_operation, has_call, enclosed, enclosed_if, needs, operand_for, operand, key_kind, assignment_mark, prefix_least, names, begins_as_another, expr, exprs, other_exprs, maybe_expr, elements, pairs, stmt, stmts, for_init, var_items, other_var_items, initialiser, cases}
 use Rattle.js_grammar.specs.ReadsBack.{on_line, line_of}
 use Rattle.js_grammar.proofs.Levels.{lower, widen, expression-any}
-use Rattle.js_grammar.proofs.Starting.{first-join, list-follows, elements-follow}
+use Rattle.js_grammar.proofs.Starting.{list-follows, elements-follow}
 use Rattle.js_grammar.proofs.Keys.{key_back}
 
 -- ---- lists of tokens
@@ -236,8 +234,8 @@ called-plain false h = lit≤ tt
 operand-new : {form : Form} {x : Expr} (reason j : Bool) → Reads form x → Expression form j 18 (line_of (operand_for (reason || has_call x) j 16 x (expr x))) x
 operand-new {form = form} {x = x} reason j d =
     operand-by form (reason || has_call x) j 16 18 x (needs (reason || has_call x) j 16 x) refl (lit≤ tt)
-      (λ e. let no_call = or-right reason (has_call x) (or-left (reason || has_call x) (nat_lt (level_of x) 16 || (not j && is_in_operation x)) e) in
-        let high = called-plain (has_call x) no_call in let low = exact-called x (unwrapped-level (reason || has_call x) j 16 x e) in omega arith) d
+    (λ e. let no_call = or-right reason (has_call x) (or-left (reason || has_call x) (nat_lt (level_of x) 16 || (not j && is_in_operation x)) e) in
+    let high = called-plain (has_call x) no_call in let low = exact-called x (unwrapped-level (reason || has_call x) j 16 x e) in omega arith) d
 
 -- ---- parts
 
@@ -294,8 +292,7 @@ anywhere a = refl
 new-again : {form : Form} (x : Expr) (j : Bool) → Reads form x → Expression form j 18 (line_of (expr (Tree.New x Tree.NoExprs) j)) (Tree.New x Tree.NoExprs)
 new-again x j d =
     moved (g.new false (lit≤ tt) (operand-new (is_function x) j d) (g.no_arguments false false))
-      (ap (λ t. word w.New false ∷ t) (line-append (operand_for (is_function x || has_call x) j 16 x (expr x)) (enclosed [])))
-
+    (ap (λ t. word w.New false ∷ t) (line-append (operand_for (is_function x || has_call x) j 16 x (expr x)) (enclosed [])))
 
 full-of : {form : Form} {x : Expr} → Reads form x → Expression form true 1 (line_of (expr x true)) x
 full-of {x = x} d = lower (one-least x) (d true refl)
@@ -323,25 +320,25 @@ stated {form = form} c x other true e d =
     moved-statement (g.expression (wrapped form true 1 x (lit≤ tt) d) (λ e. cc) (λ e. cc) (written false)) (between (enclosed (expr x true)) (k.Mark m.Semicolon) [])
 stated c x other false e d =
     moved-statement (g.expression (full-of d) (brace-start (expr x true) other e (some-tokens d)) (function-start (expr x true) other e (some-tokens d)) (written false))
-      (between (expr x true) (k.Mark m.Semicolon) [])
+    (between (expr x true) (k.Mark m.Semicolon) [])
 
 -- a header with one token in its midst, and the statement behind it
 header : (u : Kinds) (kind : TokenKind) (v body : Kinds)
     → line_of (enclosed (u ++ (kind ∷ v)) ++ body) ≡ mark m.OpenParenthesis false ∷ (line_of u ++ (on_line kind ∷ (line_of v ++ (mark m.CloseParenthesis false ∷ line_of body))))
 header u kind v body =
     ap (λ t. mark m.OpenParenthesis false ∷ line_of t)
-      (append_assoc (u ++ (kind ∷ v)) (k.Mark m.CloseParenthesis ∷ []) body ∙ append_assoc u (kind ∷ v) (k.Mark m.CloseParenthesis ∷ body))
+    (append_assoc (u ++ (kind ∷ v)) (k.Mark m.CloseParenthesis ∷ []) body ∙ append_assoc u (kind ∷ v) (k.Mark m.CloseParenthesis ∷ body))
     ∙ ap (λ t. mark m.OpenParenthesis false ∷ t) (between u kind (v ++ (k.Mark m.CloseParenthesis ∷ body))
-      ∙ ap (λ t. line_of u ++ (on_line kind ∷ t)) (between v (k.Mark m.CloseParenthesis) body))
+    ∙ ap (λ t. line_of u ++ (on_line kind ∷ t)) (between v (k.Mark m.CloseParenthesis) body))
 
 for-header : (u v z body : Kinds)
     → line_of (enclosed (u ++ (k.Mark m.Semicolon ∷ (v ++ (k.Mark m.Semicolon ∷ z)))) ++ body)
-      ≡ mark m.OpenParenthesis false ∷ (line_of u ++ (mark m.Semicolon false ∷ (line_of v ++ (mark m.Semicolon false ∷ (line_of z ++ (mark m.CloseParenthesis false ∷ line_of body))))))
+    ≡ mark m.OpenParenthesis false ∷ (line_of u ++ (mark m.Semicolon false ∷ (line_of v ++ (mark m.Semicolon false ∷ (line_of z ++ (mark m.CloseParenthesis false ∷ line_of body))))))
 for-header u v z body =
     header u (k.Mark m.Semicolon) (v ++ (k.Mark m.Semicolon ∷ z)) body
     ∙ ap (λ t. mark m.OpenParenthesis false ∷ (line_of u ++ (mark m.Semicolon false ∷ t)))
-      (ap (λ t. t ++ (mark m.CloseParenthesis false ∷ line_of body)) (between v (k.Mark m.Semicolon) z)
-        ∙ append_assoc (line_of v) (mark m.Semicolon false ∷ line_of z) (mark m.CloseParenthesis false ∷ line_of body))
+    (ap (λ t. t ++ (mark m.CloseParenthesis false ∷ line_of body)) (between v (k.Mark m.Semicolon) z)
+    ∙ append_assoc (line_of v) (mark m.Semicolon false ∷ line_of z) (mark m.CloseParenthesis false ∷ line_of body))
 
 -- where an `else` comes behind the clauses of two `switch` of one tree, it comes behind both
 clauses-follow : {form : Form} {c : Context} {may might : Bool} {u v : Symbols} {next other : Symbol} {cs : Cases} → CaseClauses form c may u next cs → CaseClauses form c might v other cs
@@ -369,17 +366,17 @@ mutual
   again (g.late c1 c2 c3 c4 c5 c6 c7 h form number) j in_may = g.late false false false false false false false (lit≤ tt) form number
   again (g.dot {n = n} {x = x} o c d h1 h2 h dx r) j in_may =
       moved (g.dot (called (has_call x)) false false (called-least (has_call x)) (called-most (has_call x)) (omega arith) (operand-called (is_number x || is_function x) j (again dx)) r)
-        (between (operand_for (is_number x || is_function x) j 16 x (expr x)) (k.Mark m.Dot) (k.Name n ∷ []))
+      (between (operand_for (is_number x || is_function x) j 16 x (expr x)) (k.Mark m.Dot) (k.Name n ∷ []))
   again (g.index {x = x} {y = y} o c d h1 h2 h dx dy) j in_may =
       moved (g.index (called (has_call x)) false false (called-least (has_call x)) (called-most (has_call x)) (omega arith) (operand-called (is_function x) j (again dx)) (operand-at true 1 (lit≤ tt) (again dy)))
-        (between (operand_for (is_function x) j 16 x (expr x)) (k.Mark m.OpenBracket) (operand true 1 y (expr y) ++ (k.Mark m.CloseBracket ∷ []))
-          ∙ ap (λ t. line_of (operand_for (is_function x) j 16 x (expr x)) ++ (mark m.OpenBracket false ∷ t)) (between (operand true 1 y (expr y)) (k.Mark m.CloseBracket) []))
+      (between (operand_for (is_function x) j 16 x (expr x)) (k.Mark m.OpenBracket) (operand true 1 y (expr y) ++ (k.Mark m.CloseBracket ∷ []))
+      ∙ ap (λ t. line_of (operand_for (is_function x) j 16 x (expr x)) ++ (mark m.OpenBracket false ∷ t)) (between (operand true 1 y (expr y)) (k.Mark m.CloseBracket) []))
   again (g.call {x = x} {xs = xs} h dx ys) j in_may =
       moved (g.call (lit≤ tt) (lower (called-least (has_call x)) (operand-called (is_function x) j (again dx))) (arguments-again ys))
-        (line-append (operand_for (is_function x) j 16 x (expr x)) (enclosed (exprs xs)))
+      (line-append (operand_for (is_function x) j 16 x (expr x)) (enclosed (exprs xs)))
   again (g.new {x = x} {xs = xs} c h dx ys) j in_may =
       moved (g.new false (lit≤ tt) (operand-new (is_function x) j (again dx)) (arguments-again ys))
-        (ap (λ t. word w.New false ∷ t) (line-append (operand_for (is_function x || has_call x) j 16 x (expr x)) (enclosed (exprs xs))))
+      (ap (λ t. word w.New false ∷ t) (line-append (operand_for (is_function x || has_call x) j 16 x (expr x)) (enclosed (exprs xs))))
   again (g.bare_new {x = x} c h dx) j in_may = new-again x j (callee-again dx)
   again (g.postfix {x = x} op h dx t) j in_may =
       moved (g.postfix op (lit≤ tt) (operand-at j 16 (lit≤ tt) (again dx)) t) (line-append (operand j 16 x (expr x)) (postfix_sign op ∷ []))
@@ -389,15 +386,15 @@ mutual
       g.changed op false (lit≤ tt) n (subst (λ l. Expression form j l (line_of (operand j (prefix_least (changes op)) x (expr x))) x) (ap prefix_least n) (operand-at j (prefix_least (changes op)) (least-of (changes op)) (again dx))) t
   again {form = form} (g.binary {x = x} {y = y} op c h m dx dy) j in_may = let most = level-most op in
       subst (λ l. Expression form j l (line_of (expr (joined op x y) j)) (joined op x y)) (sym (exact-joined op x y))
-        (moved (g.binary op false (omega arith) (may-operate j op x y in_may) (operand-at j (level op) (omega arith) (again dx)) (operand-at j (suc (level op)) (omega arith) (again dy)))
-          (ap line_of (joined-line op x y j) ∙ between (operand j (level op) x (expr x)) (sign op) (operand j (suc (level op)) y (expr y))))
+      (moved (g.binary op false (omega arith) (may-operate j op x y in_may) (operand-at j (level op) (omega arith) (again dx)) (operand-at j (suc (level op)) (omega arith) (again dy)))
+      (ap line_of (joined-line op x y j) ∙ between (operand j (level op) x (expr x)) (sign op) (operand j (suc (level op)) y (expr y))))
   again (g.conditional {x = x} {y = y} {other = z} c d h dx dy dz) j in_may =
       moved (g.conditional false false (lit≤ tt) (operand-at j 4 (lit≤ tt) (again dx)) (widen (operand-at j 2 (lit≤ tt) (again dy))) (operand-at j 2 (lit≤ tt) (again dz)))
-        (between (operand j 4 x (expr x)) (k.Mark m.Question) (operand j 2 y (expr y) ++ (k.Mark m.Colon ∷ operand j 2 z (expr z)))
-          ∙ ap (λ t. line_of (operand j 4 x (expr x)) ++ (mark m.Question false ∷ t)) (between (operand j 2 y (expr y)) (k.Mark m.Colon) (operand j 2 z (expr z))))
+      (between (operand j 4 x (expr x)) (k.Mark m.Question) (operand j 2 y (expr y) ++ (k.Mark m.Colon ∷ operand j 2 z (expr z)))
+      ∙ ap (λ t. line_of (operand j 4 x (expr x)) ++ (mark m.Question false ∷ t)) (between (operand j 2 y (expr y)) (k.Mark m.Colon) (operand j 2 z (expr z))))
   again (g.assign {x = x} {y = y} op joint c h a dx t dy) j in_may =
       moved (g.assign op (assignment_mark (assignment op)) false (lit≤ tt) (assigned (assignment op) joint a) (operand-at j 16 (lit≤ tt) (again dx)) t (operand-at j 2 (lit≤ tt) (again dy)))
-        (between (operand j 16 x (expr x)) (k.Mark (assignment_mark (assignment op))) (operand j 2 y (expr y)))
+      (between (operand j 16 x (expr x)) (k.Mark (assignment_mark (assignment op))) (operand j 2 y (expr y)))
   again (g.comma {x = x} {y = y} c h dx dy) j in_may =
       moved (g.comma false (lit≤ tt) (operand-at j 1 (lit≤ tt) (again dx)) (operand-at j 2 (lit≤ tt) (again dy))) (between (operand j 1 x (expr x)) (k.Mark m.Comma) (operand j 2 y (expr y)))
 
@@ -415,7 +412,7 @@ mutual
       subst (λ t. ArgumentList form t (Tree.MoreExprs x Tree.NoExprs)) (ap line_of (sym (append-nil (operand true 2 x (expr x))))) (g.last_argument (operand-at true 2 (lit≤ tt) (again dx)))
   argument-list-again {form = form} (g.argument_and {x = x} {xs = xs} c dx ys) =
       subst (λ t. ArgumentList form t (Tree.MoreExprs x xs)) (sym (ap (λ t. line_of (operand true 2 x (expr x) ++ t)) (other-arguments ys) ∙ between (operand true 2 x (expr x)) (k.Mark m.Comma) (exprs xs)))
-        (g.argument_and false (operand-at true 2 (lit≤ tt) (again dx)) (argument-list-again ys))
+      (g.argument_and false (operand-at true 2 (lit≤ tt) (again dx)) (argument-list-again ys))
 
   elements-again : {form : Form} {u : Symbols} {es : Elements} → ElementList form u es → ElementList form (line_of (elements es)) es
   elements-again g.no_element = g.no_element
@@ -425,7 +422,7 @@ mutual
       subst (λ t. ElementList form t (Tree.MoreElements (Tree.AnExpr x) Tree.NoElements)) (ap line_of (sym (append-nil (operand true 2 x (expr x))))) (g.last_element (operand-at true 2 (lit≤ tt) (again dx)))
   elements-again {form = form} (g.element_and {x = x} {es = Tree.MoreElements next es} c dx xs) =
       subst (λ t. ElementList form t (Tree.MoreElements (Tree.AnExpr x) (Tree.MoreElements next es))) (sym (between (operand true 2 x (expr x)) (k.Mark m.Comma) (elements (Tree.MoreElements next es))))
-        (g.element_and false (operand-at true 2 (lit≤ tt) (again dx)) (elements-again xs))
+      (g.element_and false (operand-at true 2 (lit≤ tt) (again dx)) (elements-again xs))
   elements-again (g.hole_and {es = Tree.NoElements} c xs) = g.hole_and false g.no_element
   elements-again (g.hole_and {es = Tree.MoreElements next es} c xs) = g.hole_and false (elements-again xs)
 
@@ -433,22 +430,22 @@ mutual
   properties-again g.no_property = g.no_property
   properties-again {form = form} (g.last_property {key = key} {x = x} kind c d r dx) =
       subst (λ t. PropertyList form (on_line (key_kind key) ∷ (mark m.Colon false ∷ t)) (Tree.MorePairs key x Tree.NoPairs)) (ap line_of (sym (append-nil (operand true 2 x (expr x)))))
-        (g.last_property (key_kind key) false false (key_back form kind key r) (operand-at true 2 (lit≤ tt) (again dx)))
+      (g.last_property (key_kind key) false false (key_back form kind key r) (operand-at true 2 (lit≤ tt) (again dx)))
   properties-again {form = form} (g.property_and {key = key} {x = x} {ps = Tree.NoPairs} kind c d f r dx ps) =
       subst (λ t. PropertyList form (on_line (key_kind key) ∷ (mark m.Colon false ∷ t)) (Tree.MorePairs key x Tree.NoPairs)) (ap line_of (sym (append-nil (operand true 2 x (expr x)))))
-        (g.last_property (key_kind key) false false (key_back form kind key r) (operand-at true 2 (lit≤ tt) (again dx)))
+      (g.last_property (key_kind key) false false (key_back form kind key r) (operand-at true 2 (lit≤ tt) (again dx)))
   properties-again {form = form} (g.property_and {key = key} {x = x} {ps = Tree.MorePairs other value more} kind c d f r dx ps) =
       subst (λ t. PropertyList form (on_line (key_kind key) ∷ (mark m.Colon false ∷ t)) (Tree.MorePairs key x (Tree.MorePairs other value more)))
-        (sym (between (operand true 2 x (expr x)) (k.Mark m.Comma) (pairs (Tree.MorePairs other value more))))
-        (g.property_and (key_kind key) false false false (key_back form kind key r) (operand-at true 2 (lit≤ tt) (again dx)) (properties-again ps))
+      (sym (between (operand true 2 x (expr x)) (k.Mark m.Comma) (pairs (Tree.MorePairs other value more))))
+      (g.property_and (key_kind key) false false false (key_back form kind key r) (operand-at true 2 (lit≤ tt) (again dx)) (properties-again ps))
 
   rest-again : {form : Form} {u : Symbols} {ns : List Name} {body : Stmts} → FunctionRest form u ns body
       → FunctionRest form (line_of (enclosed (names ns) ++ (k.Mark m.OpenBrace ∷ (stmts body ++ (k.Mark m.CloseBrace ∷ []))))) ns body
   rest-again {form = form} (g.function_rest {ns = ns} {body = body} c d f h fs r ss) =
       subst (λ t. FunctionRest form t ns body)
-        (sym (enclosed-line (names ns) (k.Mark m.OpenBrace ∷ (stmts body ++ (k.Mark m.CloseBrace ∷ [])))
-          ∙ ap (λ t. mark m.OpenParenthesis false ∷ (line_of (names ns) ++ (mark m.CloseParenthesis false ∷ (mark m.OpenBrace false ∷ t)))) (between (stmts body) (k.Mark m.CloseBrace) [])))
-        (g.function_rest false false false false (formals-again fs) r (source-again ss (mark m.CloseBrace false) (λ e. cc)))
+      (sym (enclosed-line (names ns) (k.Mark m.OpenBrace ∷ (stmts body ++ (k.Mark m.CloseBrace ∷ [])))
+      ∙ ap (λ t. mark m.OpenParenthesis false ∷ (line_of (names ns) ++ (mark m.CloseParenthesis false ∷ (mark m.OpenBrace false ∷ t)))) (between (stmts body) (k.Mark m.CloseBrace) [])))
+      (g.function_rest false false false false (formals-again fs) r (source-again ss (mark m.CloseBrace false) (λ e. cc)))
 
   declarator-again : {form : Form} {i : Bool} {u : Symbols} {n : Name} {value : MaybeExpr} → Declarator form i u n value → (j : Bool) → Declarator form j (line_of (k.Name n ∷ initialiser value j)) n value
   declarator-again (g.bare c r) j = g.bare false r
@@ -459,8 +456,8 @@ mutual
       subst (λ t. DeclaratorList form j (name n false ∷ t) (Tree.MoreVarItems n value Tree.NoVarItems)) (ap line_of (sym (append-nil (initialiser value j)))) (g.last_declarator (declarator-again x j))
   declarators-again {form = form} (g.declarator_and {n = n} {value = value} {items = items} c x xs) j =
       subst (λ t. DeclaratorList form j (name n false ∷ t) (Tree.MoreVarItems n value items))
-        (sym (ap (λ t. line_of (initialiser value j ++ t)) (other-declarators xs j) ∙ between (initialiser value j) (k.Mark m.Comma) (var_items items j)))
-        (g.declarator_and false (declarator-again x j) (declarators-again xs j))
+      (sym (ap (λ t. line_of (initialiser value j ++ t)) (other-declarators xs j) ∙ between (initialiser value j) (k.Mark m.Comma) (var_items items j)))
+      (g.declarator_and false (declarator-again x j) (declarators-again xs j))
 
   optional-again : {form : Form} {u : Symbols} {x : MaybeExpr} → OptionalExpression form u x → OptionalExpression form (line_of (maybe_expr x)) x
   optional-again g.absent = g.absent
@@ -484,26 +481,26 @@ mutual
   statement-again {c = c} (g.expression {x = x} dx h1 h2 ends) other h = stated c x other (begins_as_another (expr x true)) refl (again dx)
   statement-again (g.if {x = x} {s = s} b d f dx ds away) other h =
       moved-statement (g.if false false false (full-of (again dx)) (statement-again ds other h) (λ e. away (h e)))
-        (ap (λ t. word w.If false ∷ t) (enclosed-line (expr x true) (stmt s ++ []) ∙ ap (λ t. mark m.OpenParenthesis false ∷ (line_of (expr x true) ++ (mark m.CloseParenthesis false ∷ line_of t))) (append-nil (stmt s))))
+      (ap (λ t. word w.If false ∷ t) (enclosed-line (expr x true) (stmt s ++ []) ∙ ap (λ t. mark m.OpenParenthesis false ∷ (line_of (expr x true) ++ (mark m.CloseParenthesis false ∷ line_of t))) (append-nil (stmt s))))
   statement-again (g.if_else {x = x} {s = s} {other = z} b d f j dx ds dz) other h =
       moved-statement (g.if_else false false false false (full-of (again dx)) (statement-again ds (word w.Else false) (λ e. refl)) (statement-again dz other h))
-        (ap (λ t. word w.If false ∷ t) (enclosed-line (expr x true) (stmt s ++ (k.Word w.Else ∷ stmt z))
-          ∙ ap (λ t. mark m.OpenParenthesis false ∷ (line_of (expr x true) ++ (mark m.CloseParenthesis false ∷ t))) (between (stmt s) (k.Word w.Else) (stmt z))))
+      (ap (λ t. word w.If false ∷ t) (enclosed-line (expr x true) (stmt s ++ (k.Word w.Else ∷ stmt z))
+      ∙ ap (λ t. mark m.OpenParenthesis false ∷ (line_of (expr x true) ++ (mark m.CloseParenthesis false ∷ t))) (between (stmt s) (k.Word w.Else) (stmt z))))
   statement-again (g.do_while {x = x} {s = s} b d f j ds dx ends) other h =
       moved-statement (g.do_while false false false false (statement-again ds (word w.While false) (λ e. e)) (full-of (again dx)) (written false))
-        (ap (λ t. word w.Do false ∷ t) (between (stmt s) (k.Word w.While) (enclosed (expr x true) ++ (k.Mark m.Semicolon ∷ []))
-          ∙ ap (λ t. line_of (stmt s) ++ (word w.While false ∷ t)) (enclosed-line (expr x true) (k.Mark m.Semicolon ∷ []))))
+      (ap (λ t. word w.Do false ∷ t) (between (stmt s) (k.Word w.While) (enclosed (expr x true) ++ (k.Mark m.Semicolon ∷ []))
+      ∙ ap (λ t. line_of (stmt s) ++ (word w.While false ∷ t)) (enclosed-line (expr x true) (k.Mark m.Semicolon ∷ []))))
   statement-again (g.while {x = x} {s = s} b d f dx ds) other h =
       moved-statement (g.while false false false (full-of (again dx)) (statement-again ds other h)) (ap (λ t. word w.While false ∷ t) (enclosed-line (expr x true) (stmt s)))
   statement-again (g.for {init = init} {test = test} {step = step} {s = s} b d f j o di dt dn ds) other h =
       moved-statement (g.for false false false false false (first-again di) (optional-again dt) (optional-again dn) (statement-again ds other h))
-        (ap (λ t. word w.For false ∷ t) (for-header (for_init init) (maybe_expr test) (maybe_expr step) (stmt s)))
+      (ap (λ t. word w.For false ∷ t) (for-header (for_init init) (maybe_expr test) (maybe_expr step) (stmt s)))
   statement-again (g.for_in {x = x} {y = y} {s = s} b d f j dx t dy ds) other h =
       moved-statement (g.for_in false false false false (operand-at false 16 (lit≤ tt) (again dx)) t (full-of (again dy)) (statement-again ds other h))
-        (ap (λ t. word w.For false ∷ t) (header (operand false 16 x (expr x)) (k.Word w.In) (expr y true) (stmt s)))
+      (ap (λ t. word w.For false ∷ t) (header (operand false 16 x (expr x)) (k.Word w.In) (expr y true) (stmt s)))
   statement-again (g.for_var_in {n = n} {value = value} {y = y} {s = s} b d f j o dx dy ds) other h =
       moved-statement (g.for_var_in false false false false false (declarator-again dx false) (full-of (again dy)) (statement-again ds other h))
-        (ap (λ t. word w.For false ∷ t) (header (k.Word w.Var ∷ (k.Name n ∷ initialiser value false)) (k.Word w.In) (expr y true) (stmt s)))
+      (ap (λ t. word w.For false ∷ t) (header (k.Word w.Var ∷ (k.Name n ∷ initialiser value false)) (k.Word w.In) (expr y true) (stmt s)))
   statement-again (g.continue b may ends) other h = g.continue false may semicolon
   statement-again (g.continue_to b r may ends) other h = g.continue_to false r may (written false)
   statement-again (g.break b may ends) other h = g.break false may semicolon
@@ -511,43 +508,43 @@ mutual
   statement-again (g.return b may ends) other h = g.return false may semicolon
   statement-again (g.return_value {x = x} b may dx start ends) other h =
       moved-statement (g.return_value false may (full-of (again dx)) (line-start (expr x true) other (some-tokens (again dx))) (written false))
-        (ap (λ t. word w.Return false ∷ t) (between (expr x true) (k.Mark m.Semicolon) []))
+      (ap (λ t. word w.Return false ∷ t) (between (expr x true) (k.Mark m.Semicolon) []))
   statement-again (g.switch {x = x} {cs = cs} b d f j o dx dcs) other h =
       moved-statement (g.switch false false false false false (full-of (again dx)) (clauses-again dcs (mark m.CloseBrace false) (λ e. cc)))
-        (ap (λ t. word w.Switch false ∷ t) (enclosed-line (expr x true) (k.Mark m.OpenBrace ∷ (cases cs ++ (k.Mark m.CloseBrace ∷ [])))
-          ∙ ap (λ t. mark m.OpenParenthesis false ∷ (line_of (expr x true) ++ (mark m.CloseParenthesis false ∷ (mark m.OpenBrace false ∷ t)))) (between (cases cs) (k.Mark m.CloseBrace) [])))
+      (ap (λ t. word w.Switch false ∷ t) (enclosed-line (expr x true) (k.Mark m.OpenBrace ∷ (cases cs ++ (k.Mark m.CloseBrace ∷ [])))
+      ∙ ap (λ t. mark m.OpenParenthesis false ∷ (line_of (expr x true) ++ (mark m.CloseParenthesis false ∷ (mark m.OpenBrace false ∷ t)))) (between (cases cs) (k.Mark m.CloseBrace) [])))
   statement-again (g.label b d r away ds) other h = g.label false false r away (statement-again ds other h)
   statement-again (g.throw {x = x} b dx start ends) other h =
       moved-statement (g.throw false (full-of (again dx)) (line-start (expr x true) other (some-tokens (again dx))) (written false))
-        (ap (λ t. word w.Throw false ∷ t) (between (expr x true) (k.Mark m.Semicolon) []))
+      (ap (λ t. word w.Throw false ∷ t) (between (expr x true) (k.Mark m.Semicolon) []))
   statement-again (g.try_catch {n = n} {s = s} {handler = z} b d f j o ds r dz) other h =
       moved-statement (g.try_catch false false false false false (block-again ds) r (block-again dz))
-        (ap (λ t. word w.Try false ∷ t) (between (stmt s) (k.Word w.Catch) ((enclosed (k.Name n ∷ []) ++ stmt z) ++ [])
-          ∙ ap (λ t. line_of (stmt s) ++ (word w.Catch false ∷ (mark m.OpenParenthesis false ∷ (name n false ∷ (mark m.CloseParenthesis false ∷ line_of t))))) (append-nil (stmt z))))
+      (ap (λ t. word w.Try false ∷ t) (between (stmt s) (k.Word w.Catch) ((enclosed (k.Name n ∷ []) ++ stmt z) ++ [])
+      ∙ ap (λ t. line_of (stmt s) ++ (word w.Catch false ∷ (mark m.OpenParenthesis false ∷ (name n false ∷ (mark m.CloseParenthesis false ∷ line_of t))))) (append-nil (stmt z))))
   statement-again (g.try_finally {s = s} {last = z} b d ds dz) other h =
       moved-statement (g.try_finally false false (block-again ds) (block-again dz)) (ap (λ t. word w.Try false ∷ t) (between (stmt s) (k.Word w.Finally) (stmt z)))
   statement-again (g.try_catch_finally {n = n} {s = s} {handler = y} {last = z} b d f j o p ds r dy dz) other h =
       moved-statement (g.try_catch_finally false false false false false false (block-again ds) r (block-again dy) (block-again dz))
-        (ap (λ t. word w.Try false ∷ t) (between (stmt s) (k.Word w.Catch) ((enclosed (k.Name n ∷ []) ++ stmt y) ++ (k.Word w.Finally ∷ stmt z))
-          ∙ ap (λ t. line_of (stmt s) ++ (word w.Catch false ∷ (mark m.OpenParenthesis false ∷ (name n false ∷ (mark m.CloseParenthesis false ∷ t))))) (between (stmt y) (k.Word w.Finally) (stmt z))))
+      (ap (λ t. word w.Try false ∷ t) (between (stmt s) (k.Word w.Catch) ((enclosed (k.Name n ∷ []) ++ stmt y) ++ (k.Word w.Finally ∷ stmt z))
+      ∙ ap (λ t. line_of (stmt s) ++ (word w.Catch false ∷ (mark m.OpenParenthesis false ∷ (name n false ∷ (mark m.CloseParenthesis false ∷ t))))) (between (stmt y) (k.Word w.Finally) (stmt z))))
 
   list-again : {form : Form} {c : Context} {u : Symbols} {next : Symbol} {ss : Stmts} → StatementList form c u next ss
       → (other : Symbol) → (other.kind ≡ k.Word w.Else → next.kind ≡ k.Word w.Else) → StatementList form c (line_of (stmts ss)) other ss
   list-again g.no_statement other h = g.no_statement
   list-again {form = form} {c = c} (g.statement_and {s = s} {ss = ss} d ds) other h = let rest = list-again ds other h in
       subst (λ t. StatementList form c t other (Tree.MoreStmts s ss)) (sym (line-append (stmt s) (stmts ss)))
-        (g.statement_and (statement-again d (first (line_of (stmts ss)) other) (list-follows ds rest h)) rest)
+      (g.statement_and (statement-again d (first (line_of (stmts ss)) other) (list-follows ds rest h)) rest)
 
   clauses-again : {form : Form} {c : Context} {may : Bool} {u : Symbols} {next : Symbol} {cs : Cases} → CaseClauses form c may u next cs
       → (other : Symbol) → (other.kind ≡ k.Word w.Else → next.kind ≡ k.Word w.Else) → CaseClauses form c may (line_of (cases cs)) other cs
   clauses-again g.no_clause other h = g.no_clause
   clauses-again {form = form} {c = c} {may = may} (g.case_and {x = x} {ss = ss} {cs = cs} b d dx ds dcs) other h = let rest = clauses-again dcs other h in
       subst (λ t. CaseClauses form c may (word w.Case false ∷ t) other (Tree.MoreCases (Tree.AnExpr x) ss cs))
-        (sym (between (expr x true) (k.Mark m.Colon) (stmts ss ++ cases cs) ∙ ap (λ t. line_of (expr x true) ++ (mark m.Colon false ∷ t)) (line-append (stmts ss) (cases cs))))
-        (g.case_and false false (full-of (again dx)) (list-again ds (first (line_of (cases cs)) other) (clauses-follow dcs rest h)) rest)
+      (sym (between (expr x true) (k.Mark m.Colon) (stmts ss ++ cases cs) ∙ ap (λ t. line_of (expr x true) ++ (mark m.Colon false ∷ t)) (line-append (stmts ss) (cases cs))))
+      (g.case_and false false (full-of (again dx)) (list-again ds (first (line_of (cases cs)) other) (clauses-follow dcs rest h)) rest)
   clauses-again {form = form} {c = c} (g.default_and {ss = ss} {cs = cs} b d ds dcs) other h = let rest = clauses-again dcs other h in
       subst (λ t. CaseClauses form c true (word w.Default false ∷ (mark m.Colon false ∷ t)) other (Tree.MoreCases Tree.NoExpr ss cs)) (sym (line-append (stmts ss) (cases cs)))
-        (g.default_and false false (list-again ds (first (line_of (cases cs)) other) (clauses-follow dcs rest h)) rest)
+      (g.default_and false false (list-again ds (first (line_of (cases cs)) other) (clauses-follow dcs rest h)) rest)
 
   element-again : {form : Form} {c : Context} {u : Symbols} {next : Symbol} {s : Stmt} → SourceElement form c u next s
       → (other : Symbol) → (other.kind ≡ k.Word w.Else → next.kind ≡ k.Word w.Else) → SourceElement form c (line_of (stmt s)) other s
@@ -559,7 +556,7 @@ mutual
   source-again g.no_source other h = g.no_source
   source-again {form = form} {c = c} (g.source_and {s = s} {ss = ss} d ds) other h = let rest = source-again ds other h in
       subst (λ t. SourceElements form c t other (Tree.MoreStmts s ss)) (sym (line-append (stmt s) (stmts ss)))
-        (g.source_and (element-again d (first (line_of (stmts ss)) other) (elements-follow ds rest h)) rest)
+      (g.source_and (element-again d (first (line_of (stmts ss)) other) (elements-follow ds rest h)) rest)
 
 pub read_back : (form : Form) (tokens : Symbols) (tree : Tree.Script) → Derives form tokens tree → Derives form (line_of (stmts tree) ++ (end false ∷ [])) tree
 read_back form tokens tree d = record { elements = line_of (stmts tree); newline = false; whole = refl; derived = source-again d.derived (end false) (λ e. cc) }

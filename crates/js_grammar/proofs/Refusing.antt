@@ -1,20 +1,19 @@
 -- What may be told of the worked texts that are refused.
-use Rattle.std.proofs.Common.{◌≡◌, ◌≢◌, ℕ, zero, suc, ◌+◌, ◌≤◌, Bool, true, false, List, [], ◌∷◌, ◌++◌, codes, Some, None, length, map, refl, ap, sym, ◌∙◌, subst, arith, lit≤, max}
+use Rattle.std.proofs.Common.{◌≡◌, ◌≢◌, ℕ, zero, suc, ◌+◌, ◌≤◌, true, false, [], ◌∷◌, ◌++◌, codes, Some, None, refl, ap, arith, lit≤, max}
 use Rattle.std.proofs.Math.Nat.{le-max_left, le-max_right, le_trans}
 use Rattle.js_lexer.specs.declared.mark.Mark.TheVariants as m
 use Rattle.js_lexer.specs.declared.word.Word.TheVariants as w
 use Rattle.js_lexer.specs.declared.token.TokenKind.TheVariants as k
-use Rattle.js_tree.specs.declared.tree.BinaryOp.TheVariants as b
 use Rattle.js_tree.specs.declared.tree.PrefixOp.TheVariants as p
 use Rattle.js_tree.specs.Tree
 use Rattle.js_grammar.specs.declared.form.Form.TheVariants.{Source}
 use Rattle.js_grammar.specs.declared.form.Construct.TheVariants as c
-use Rattle.js_grammar.specs.Symbols.{Symbols, word, mark, name, number, string, end, symbols, first}
+use Rattle.js_grammar.specs.Symbols.{Symbols, word, mark, name, number, end, symbols, first}
 use Rattle.js_grammar.specs.Ends.{at_end, written}
 use Rattle.js_grammar.specs.Grammar as g
 use Rattle.js_grammar.specs.Grammar.{code, Expression, Statement}
 use Rattle.js_grammar.specs.Contexts as context
-use Rattle.js_grammar.specs.Accepted.{source_limits, Derives, Accepted, IsOverAt, most_open, opened}
+use Rattle.js_grammar.specs.Accepted.{source_limits, Accepted, IsOverAt, most_open, opened}
 use Rattle.js_grammar.specs.Fault.{Fault, Syntax, Refused, TooDeep, TooMany, Begins, Breaks, breaking, over}
 use Rattle.js_grammar.specs.Fault as fault
 use Rattle.js_grammar.specs.RefusedRows as rows
@@ -25,33 +24,49 @@ pub with_statement : Fault Source (source_limits 65535) rows.with_statement (Ref
 with_statement = breaking (token (k.Word w.Var) 0 3 1 1 false ∷ token (k.Name (codes "a")) 4 5 1 5 false ∷ token (k.Mark m.Semicolon) 5 6 1 6 false ∷ token (k.Word w.Var) 7 10 2 1 true ∷ token (k.Name (codes "b")) 11 12 2 5 false ∷ token (k.Mark m.Semicolon) 12 13 2 6 false ∷ token (k.Name (codes "a")) 14 15 3 1 true ∷ token (k.Mark m.Assign) 15 16 3 2 false ∷ token (k.Number 1) 16 17 3 3 false ∷ token (k.Mark m.Semicolon) 17 18 3 4 false ∷ []) (token (k.Word w.With) 18 22 3 5 false) (record {
   rest = token (k.Mark m.OpenParenthesis) 22 23 3 9 false ∷ token (k.Name (codes "b")) 23 24 3 10 false ∷ token (k.Mark m.CloseParenthesis) 24 25 3 11 false ∷ token (k.Mark m.OpenBrace) 25 26 3 12 false ∷ token (k.Mark m.CloseBrace) 26 27 3 13 false ∷ token k.End 30 30 3 17 false ∷ [];
   whole = refl;
-  begins = record { more = end false ∷ []; tree = (Tree.MoreStmts (Tree.Variables (Tree.MoreVarItems (codes "a") Tree.NoExpr Tree.NoVarItems)) (Tree.MoreStmts (Tree.Variables (Tree.MoreVarItems (codes "b") Tree.NoExpr Tree.NoVarItems)) (Tree.MoreStmts (Tree.Do (Tree.Assign None (Tree.Ident (codes "a")) (Tree.Num 1))) Tree.NoStmts)));
-    unlimited = record { derives = record { elements = word w.Var false ∷ name (codes "a") false ∷ mark m.Semicolon false ∷ word w.Var true ∷ name (codes "b") false ∷ mark m.Semicolon false ∷ name (codes "a") true ∷ mark m.Assign false ∷ number 1 false ∷ mark m.Semicolon false ∷ []; newline = false; whole = refl; derived = (g.source_and (g.statement (g.variables false (g.last_declarator (g.bare false refl)) (written false))) (g.source_and (g.statement (g.variables true (g.last_declarator (g.bare false refl)) (written false))) (g.source_and (g.statement (g.expression (g.assign None m.Assign false (lit≤ tt) refl (g.identifier true (lit≤ tt) refl) refl (g.numeral false (lit≤ tt))) (λ e. cc) (λ e. cc) (written false))) g.no_source))) }; few_functions = lit≤ tt } };
-  ends = λ h. let placed = begun Source 65535 _ h in cc }) refl
+  begins = record {
+    more = end false ∷ [];
+    tree = (Tree.MoreStmts (Tree.Variables (Tree.MoreVarItems (codes "a") Tree.NoExpr Tree.NoVarItems)) (Tree.MoreStmts (Tree.Variables (Tree.MoreVarItems (codes "b") Tree.NoExpr Tree.NoVarItems)) (Tree.MoreStmts (Tree.Do (Tree.Assign None (Tree.Ident (codes "a")) (Tree.Num 1))) Tree.NoStmts)));
+    unlimited = record { derives = record { elements = word w.Var false ∷ name (codes "a") false ∷ mark m.Semicolon false ∷ word w.Var true ∷ name (codes "b") false ∷ mark m.Semicolon false ∷ name (codes "a") true ∷ mark m.Assign false ∷ number 1 false ∷ mark m.Semicolon false ∷ []; newline = false; whole = refl; derived = (g.source_and (g.statement (g.variables false (g.last_declarator (g.bare false refl)) (written false))) (g.source_and (g.statement (g.variables true (g.last_declarator (g.bare false refl)) (written false))) (g.source_and (g.statement (g.expression (g.assign None m.Assign false (lit≤ tt) refl (g.identifier true (lit≤ tt) refl) refl (g.numeral false (lit≤ tt))) (λ e. cc) (λ e. cc) (written false))) g.no_source))) }; few_functions = lit≤ tt };
+  };
+  ends = λ h. let placed = begun Source 65535 _ h in cc;
+}) refl
 
 pub two_names : Fault Source (source_limits 65535) rows.two_names (Syntax (place 1 3))
 two_names = breaking (token (k.Name (codes "a")) 0 1 1 1 false ∷ []) (token (k.Name (codes "b")) 2 3 1 3 false) (record {
   rest = token k.End 3 3 1 4 false ∷ [];
   whole = refl;
-  begins = record { more = end false ∷ []; tree = (Tree.MoreStmts (Tree.Do (Tree.Ident (codes "a"))) Tree.NoStmts);
-    unlimited = record { derives = record { elements = name (codes "a") false ∷ []; newline = false; whole = refl; derived = (g.source_and (g.statement (g.expression (g.identifier false (lit≤ tt) refl) (λ e. cc) (λ e. cc) (at_end refl))) g.no_source) }; few_functions = lit≤ tt } };
-  ends = λ h. let placed = begun Source 65535 _ h in cc }) refl
+  begins = record {
+    more = end false ∷ [];
+    tree = (Tree.MoreStmts (Tree.Do (Tree.Ident (codes "a"))) Tree.NoStmts);
+    unlimited = record { derives = record { elements = name (codes "a") false ∷ []; newline = false; whole = refl; derived = (g.source_and (g.statement (g.expression (g.identifier false (lit≤ tt) refl) (λ e. cc) (λ e. cc) (at_end refl))) g.no_source) }; few_functions = lit≤ tt };
+  };
+  ends = λ h. let placed = begun Source 65535 _ h in cc;
+}) refl
 
 pub own_name : Fault Source (source_limits 65535) rows.own_name (Refused (place 1 3) c.DlName)
 own_name = breaking (token (k.Name (codes "x")) 0 1 1 1 false ∷ token (k.Mark m.Assign) 1 2 1 2 false ∷ []) (token (k.Name (codes "$dl_x")) 2 7 1 3 false) (record {
   rest = token k.End 7 7 1 8 false ∷ [];
   whole = refl;
-  begins = record { more = number 1 false ∷ mark m.Semicolon false ∷ end false ∷ []; tree = (Tree.MoreStmts (Tree.Do (Tree.Assign None (Tree.Ident (codes "x")) (Tree.Num 1))) Tree.NoStmts);
-    unlimited = record { derives = record { elements = name (codes "x") false ∷ mark m.Assign false ∷ number 1 false ∷ mark m.Semicolon false ∷ []; newline = false; whole = refl; derived = (g.source_and (g.statement (g.expression (g.assign None m.Assign false (lit≤ tt) refl (g.identifier false (lit≤ tt) refl) refl (g.numeral false (lit≤ tt))) (λ e. cc) (λ e. cc) (written false))) g.no_source) }; few_functions = lit≤ tt } };
-  ends = λ h. let placed = begun Source 65535 _ h in cc }) refl
+  begins = record {
+    more = number 1 false ∷ mark m.Semicolon false ∷ end false ∷ [];
+    tree = (Tree.MoreStmts (Tree.Do (Tree.Assign None (Tree.Ident (codes "x")) (Tree.Num 1))) Tree.NoStmts);
+    unlimited = record { derives = record { elements = name (codes "x") false ∷ mark m.Assign false ∷ number 1 false ∷ mark m.Semicolon false ∷ []; newline = false; whole = refl; derived = (g.source_and (g.statement (g.expression (g.assign None m.Assign false (lit≤ tt) refl (g.identifier false (lit≤ tt) refl) refl (g.numeral false (lit≤ tt))) (λ e. cc) (λ e. cc) (written false))) g.no_source) }; few_functions = lit≤ tt };
+  };
+  ends = λ h. let placed = begun Source 65535 _ h in cc;
+}) refl
 
 pub two_functions : Fault Source (source_limits 1) rows.two_functions (TooMany (place 1 15))
 two_functions = breaking (token (k.Word w.Function) 0 8 1 1 false ∷ token (k.Name (codes "f")) 9 10 1 10 false ∷ token (k.Mark m.OpenParenthesis) 10 11 1 11 false ∷ token (k.Mark m.CloseParenthesis) 11 12 1 12 false ∷ token (k.Mark m.OpenBrace) 12 13 1 13 false ∷ token (k.Mark m.CloseBrace) 13 14 1 14 false ∷ []) (token (k.Word w.Function) 14 22 1 15 false) (record {
   rest = token (k.Name (codes "g")) 23 24 1 24 false ∷ token (k.Mark m.OpenParenthesis) 24 25 1 25 false ∷ token (k.Mark m.CloseParenthesis) 25 26 1 26 false ∷ token (k.Mark m.OpenBrace) 26 27 1 27 false ∷ token (k.Mark m.CloseBrace) 27 28 1 28 false ∷ token k.End 31 31 1 32 false ∷ [];
   whole = refl;
-  begins = record { more = end false ∷ []; tree = (Tree.MoreStmts (Tree.Declare (code (Some (codes "f")) ([]) Tree.NoStmts)) Tree.NoStmts);
-    unlimited = record { derives = record { elements = word w.Function false ∷ name (codes "f") false ∷ mark m.OpenParenthesis false ∷ mark m.CloseParenthesis false ∷ mark m.OpenBrace false ∷ mark m.CloseBrace false ∷ []; newline = false; whole = refl; derived = (g.source_and (g.declaration false false refl (g.function_rest false false false false g.no_formal refl g.no_source)) g.no_source) }; few_functions = lit≤ tt } };
-  ends = λ h. let few = h.unlimited.few_functions in absurd (omega arith) }) refl
+  begins = record {
+    more = end false ∷ [];
+    tree = (Tree.MoreStmts (Tree.Declare (code (Some (codes "f")) ([]) Tree.NoStmts)) Tree.NoStmts);
+    unlimited = record { derives = record { elements = word w.Function false ∷ name (codes "f") false ∷ mark m.OpenParenthesis false ∷ mark m.CloseParenthesis false ∷ mark m.OpenBrace false ∷ mark m.CloseBrace false ∷ []; newline = false; whole = refl; derived = (g.source_and (g.declaration false false refl (g.function_rest false false false false g.no_formal refl g.no_source)) g.no_source) }; few_functions = lit≤ tt };
+  };
+  ends = λ h. let few = h.unlimited.few_functions in absurd (omega arith);
+}) refl
 
 -- ---- n times `!`
 
@@ -87,16 +102,30 @@ unfolding not_list
 nots_accepted = record {
   unlimited = record {
     derives = record { elements = not_list 398; newline = false; whole = not_symbols 398 0; derived = g.source_and {v = []} (g.statement (not_statement 398)) g.no_source };
-    few_functions = lit≤ tt };
-  keeps = record { deep_enough = lit≤ tt; nested_enough = lit≤ tt; open_enough = lit≤ tt } }
+    few_functions = lit≤ tt;
+  };
+  keeps = record { deep_enough = lit≤ tt; nested_enough = lit≤ tt; open_enough = lit≤ tt };
+}
 
 too_deep : IsOverAt Source (source_limits 65535) (symbols (rows.nots 399 0)) 0
 unfolding not_list
 too_deep = record {
-  before = []; element = not_list 399 ++ []; after = []; newline = false; trees = Tree.NoStmts; tree = Tree.Do (rows.not_tree 399); other_trees = Tree.NoStmts;
-  whole = refl; stands = refl; derives_before = g.no_source; derives = g.statement (not_statement 399); derives_after = g.no_source; few_functions = lit≤ tt;
+  before = [];
+  element = not_list 399 ++ [];
+  after = [];
+  newline = false;
+  trees = Tree.NoStmts;
+  tree = Tree.Do (rows.not_tree 399);
+  other_trees = Tree.NoStmts;
+  whole = refl;
+  stands = refl;
+  derives_before = g.no_source;
+  derives = g.statement (not_statement 399);
+  derives_after = g.no_source;
+  few_functions = lit≤ tt;
   keeps_before = record { deep_enough = lit≤ tt; nested_enough = lit≤ tt; open_enough = lit≤ tt };
-  breaks = λ h. let deep = h.deep_enough in absurd (omega arith) }
+  breaks = λ h. let deep = h.deep_enough in absurd (omega arith);
+}
 
 pub nots_refused : Fault Source (source_limits 65535) (rows.nots 399 0) (TooDeep (place 1 1))
 nots_refused = over [] (rows.nots 398 1) (token (k.Mark m.Not) 0 1 1 1 false) refl too_deep
@@ -118,30 +147,49 @@ ones_statement : Statement Source context.script (mark m.OpenParenthesis false �
 ones_statement = g.expression (g.parenthesised false false (lit≤ tt) (g.parenthesised false false (lit≤ tt) (g.numeral false (lit≤ tt)))) (λ e. cc) (λ e. cc) (at_end refl)
 
 two_begin : Begins Source 65535 (mark m.OpenParenthesis false ∷ mark m.OpenParenthesis false ∷ [])
-two_begin = record { more = number 1 false ∷ mark m.CloseParenthesis false ∷ mark m.CloseParenthesis false ∷ end false ∷ []; tree = Tree.MoreStmts (Tree.Do (Tree.Num 1)) Tree.NoStmts;
+two_begin = record {
+  more = number 1 false ∷ mark m.CloseParenthesis false ∷ mark m.CloseParenthesis false ∷ end false ∷ [];
+  tree = Tree.MoreStmts (Tree.Do (Tree.Num 1)) Tree.NoStmts;
   unlimited = record {
-    derives = record { elements = mark m.OpenParenthesis false ∷ mark m.OpenParenthesis false ∷ number 1 false ∷ mark m.CloseParenthesis false ∷ mark m.CloseParenthesis false ∷ []; newline = false; whole = refl;
-      derived = g.source_and {v = []} (g.statement ones_statement) g.no_source };
-    few_functions = lit≤ tt } }
+    derives = record {
+      elements = mark m.OpenParenthesis false ∷ mark m.OpenParenthesis false ∷ number 1 false ∷ mark m.CloseParenthesis false ∷ mark m.CloseParenthesis false ∷ [];
+      newline = false;
+      whole = refl;
+      derived = g.source_and {v = []} (g.statement ones_statement) g.no_source;
+    };
+    few_functions = lit≤ tt;
+  };
+}
 
 broken : Breaks Source 65535 rows.brackets (token (k.Mark m.OpenParenthesis) 0 1 1 1 false ∷ token (k.Mark m.OpenParenthesis) 1 2 1 2 false ∷ []) (token (k.Word w.With) 2 6 1 3 false)
 broken = record { rest = token k.End 6 6 1 7 false ∷ []; whole = refl; begins = two_begin; ends = λ h. let placed = begun Source 65535 _ h in cc }
 
 over_brackets : IsOverAt Source rows.one_bracket
-  (mark m.OpenParenthesis false ∷ mark m.OpenParenthesis false ∷ number 1 false ∷ mark m.CloseParenthesis false ∷ mark m.CloseParenthesis false ∷ end false ∷ []) 0
+    (mark m.OpenParenthesis false ∷ mark m.OpenParenthesis false ∷ number 1 false ∷ mark m.CloseParenthesis false ∷ mark m.CloseParenthesis false ∷ end false ∷ []) 0
 over_brackets = record {
-  before = []; element = mark m.OpenParenthesis false ∷ mark m.OpenParenthesis false ∷ number 1 false ∷ mark m.CloseParenthesis false ∷ mark m.CloseParenthesis false ∷ [];
-  after = []; newline = false; trees = Tree.NoStmts; tree = Tree.Do (Tree.Num 1); other_trees = Tree.NoStmts;
-  whole = refl; stands = refl; derives_before = g.no_source; derives = g.statement ones_statement; derives_after = g.no_source; few_functions = lit≤ tt;
+  before = [];
+  element = mark m.OpenParenthesis false ∷ mark m.OpenParenthesis false ∷ number 1 false ∷ mark m.CloseParenthesis false ∷ mark m.CloseParenthesis false ∷ [];
+  after = [];
+  newline = false;
+  trees = Tree.NoStmts;
+  tree = Tree.Do (Tree.Num 1);
+  other_trees = Tree.NoStmts;
+  whole = refl;
+  stands = refl;
+  derives_before = g.no_source;
+  derives = g.statement ones_statement;
+  derives_after = g.no_source;
+  few_functions = lit≤ tt;
   keeps_before = record { deep_enough = lit≤ tt; nested_enough = lit≤ tt; open_enough = lit≤ tt };
-  breaks = λ h. let few = h.open_enough in absurd (omega arith) }
+  breaks = λ h. let few = h.open_enough in absurd (omega arith);
+}
 
 pub spent : Fault Source rows.one_bracket rows.brackets (TooDeep (place 1 1))
 spent = fault.spent (token (k.Mark m.OpenParenthesis) 0 1 1 1 false ∷ token (k.Mark m.OpenParenthesis) 1 2 1 2 false ∷ [])
-  (token (k.Mark m.OpenParenthesis) 0 1 1 1 false ∷ token (k.Mark m.OpenParenthesis) 1 2 1 2 false ∷ []) [] [] (token (k.Mark m.OpenParenthesis) 1 2 1 2 false ∷ [])
-  (token (k.Word w.With) 2 6 1 3 false) (token (k.Mark m.OpenParenthesis) 0 1 1 1 false)
-  (number 1 false ∷ mark m.CloseParenthesis false ∷ mark m.CloseParenthesis false ∷ end false ∷ []) broken refl
-  (record { begins = two_begin; over = λ more tree unlimited keeps. let few = keeps.open_enough in let two = two_open more in absurd (omega arith) }) refl over_brackets
+    (token (k.Mark m.OpenParenthesis) 0 1 1 1 false ∷ token (k.Mark m.OpenParenthesis) 1 2 1 2 false ∷ []) [] [] (token (k.Mark m.OpenParenthesis) 1 2 1 2 false ∷ [])
+    (token (k.Word w.With) 2 6 1 3 false) (token (k.Mark m.OpenParenthesis) 0 1 1 1 false)
+    (number 1 false ∷ mark m.CloseParenthesis false ∷ mark m.CloseParenthesis false ∷ end false ∷ []) broken refl
+    (record { begins = two_begin; over = λ more tree unlimited keeps. let few = keeps.open_enough in let two = two_open more in absurd (omega arith) }) refl over_brackets
 
 pub not_only_spent : Fault Source rows.one_bracket rows.brackets (Refused (place 1 3) c.With)
 not_only_spent = breaking (token (k.Mark m.OpenParenthesis) 0 1 1 1 false ∷ token (k.Mark m.OpenParenthesis) 1 2 1 2 false ∷ []) (token (k.Word w.With) 2 6 1 3 false) broken refl

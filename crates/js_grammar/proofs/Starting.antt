@@ -1,5 +1,5 @@
 -- No statement begins with `else`.
-use Rattle.std.proofs.Common.{◌≡◌, ◌≢◌, ℕ, Bool, List, [], ◌∷◌, ◌++◌, refl, ap, sym, ◌∙◌, subst}
+use Rattle.std.proofs.Common.{◌≡◌, ◌≢◌, ℕ, Bool, [], ◌∷◌, ◌++◌, refl, ap, sym, ◌∙◌}
 use Rattle.js_lexer.specs.declared.word.Word.TheVariants as w
 use Rattle.js_lexer.specs.declared.token.TokenKind.TheVariants as k
 use Rattle.js_tree.specs.declared.tree.PrefixOp.{PrefixOp}

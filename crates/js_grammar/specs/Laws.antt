@@ -12,7 +12,7 @@ use Rattle.js_grammar.specs.Symbols.{Symbol, Symbols, symbols}
 use Rattle.js_grammar.specs.Operators.{is_target}
 use Rattle.js_grammar.specs.Contexts.{Context}
 use Rattle.js_grammar.specs.Ends.{ends_changed}
-use Rattle.js_grammar.specs.Grammar.{Formals, Expression, ArgumentList, Arguments, DeclaratorList, FunctionRest, Statement, SourceElement}
+use Rattle.js_grammar.specs.Grammar.{Formals, Expression, ArgumentList, DeclaratorList, Statement, SourceElement}
 use Rattle.js_lexer.specs.declared.token.Token.{Token}
 use Rattle.js_tree.specs.Numbering.{in_stmts}
 use Rattle.js_grammar.specs.Accepted.{Derives, IsUnlimited, functions_in, opened}
@@ -131,3 +131,7 @@ open_behind n (s ∷ ss) = open_behind (opened s.kind n) ss
 -- Each statement and each declaration of a script closes the brackets that it opens.
 abbrev pub BracketsAreClosed : Type 0
 BracketsAreClosed = (form : Form) (c : Context) (u : Symbols) (next : Symbol) (s : Stmt) → SourceElement form c u next s → (n : ℕ) → open_behind n u ≡ n
+
+-- An expression that is one token has one tree.
+abbrev pub OneTreeOfAToken : Type 0
+OneTreeOfAToken = (form : Form) (i j : Bool) (l o : ℕ) (s : Symbol) (x y : Expr) → Expression form i l (s ∷ []) x → Expression form j o (s ∷ []) y → x ≡ y

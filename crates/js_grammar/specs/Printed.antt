@@ -1,5 +1,5 @@
 -- What a tree is written as: its tokens, by cases on the tree, with the least parentheses.
-use Rattle.std.specs.Prelude.{ℕ, suc, ◌||◌, ◌&&◌, nat_lt, nat_le, not, Bool, true, false, List, [], ◌∷◌, ◌++◌, codes, Option, Some, None, if◌then◌else◌}
+use Rattle.std.specs.Prelude.{ℕ, suc, ◌||◌, ◌&&◌, nat_lt, not, Bool, true, false, List, [], ◌∷◌, ◌++◌, codes, Option, Some, None, if◌then◌else◌}
 use Rattle.std.specs.List.{list_all}
 use Rattle.js_lexer.specs.Names.{is_name}
 use Rattle.js_lexer.specs.declared.mark.Mark.{Mark}
@@ -7,7 +7,6 @@ use Rattle.js_lexer.specs.declared.mark.Mark.TheVariants as m
 use Rattle.js_lexer.specs.declared.word.Word.TheVariants as w
 use Rattle.js_lexer.specs.declared.token.TokenKind.{TokenKind}
 use Rattle.js_lexer.specs.declared.token.TokenKind.TheVariants as k
-use Rattle.js_tree.specs.declared.tree.BinaryOp.{BinaryOp}
 use Rattle.js_tree.specs.Tree.{Name, Expr, MaybeExpr, Stmt, Func}
 use Rattle.js_tree.specs.Tree
 use Rattle.js_grammar.specs.Operators.{sign, level, LogicalOr, LogicalAnd, Operation, is_in, prefix_sign, changes, postfix_sign, assignment}

@@ -1,7 +1,7 @@
 -- What a tree is written as has the tree again.
-use Rattle.std.specs.Prelude.{◌≡◌, Bool, false, List, [], ◌∷◌, ◌++◌, Option, Some, map}
+use Rattle.std.specs.Prelude.{false, [], ◌∷◌, ◌++◌, map}
 use Rattle.js_lexer.specs.declared.token.TokenKind.{TokenKind}
-use Rattle.js_tree.specs.Tree.{Name, Script, Func}
+use Rattle.js_tree.specs.Tree.{Script}
 use Rattle.js_grammar.specs.declared.form.Form.{Form}
 use Rattle.js_grammar.specs.Symbols.{Symbol, Symbols, of_kind, end}
 use Rattle.js_grammar.specs.Accepted.{Derives}

@@ -1,5 +1,5 @@
 -- Worked texts: the tokens of each, its tree, and what the tree is written as.
-use Rattle.std.specs.Prelude.{ℕ, ◌≡◌, Bool, true, false, List, [], ◌∷◌, codes, Some, None}
+use Rattle.std.specs.Prelude.{ℕ, ◌≡◌, true, false, List, [], ◌∷◌, codes, Some, None}
 use Rattle.js_lexer.specs.declared.mark.Mark.TheVariants as m
 use Rattle.js_lexer.specs.declared.word.Word.TheVariants as w
 use Rattle.js_tree.specs.declared.tree.BinaryOp.TheVariants as b

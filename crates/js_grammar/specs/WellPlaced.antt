@@ -1,5 +1,5 @@
 -- Which tokens stand in a script at all, and that a name does not stand directly behind another on its line.
-use Rattle.std.specs.Prelude.{◌&&◌, ◌||◌, not, Bool, true, false, List, [], ◌∷◌}
+use Rattle.std.specs.Prelude.{◌&&◌, ◌||◌, not, Bool, true, false, [], ◌∷◌}
 use Rattle.js_lexer.specs.declared.word.Word.{Word}
 use Rattle.js_lexer.specs.declared.word.Word.TheVariants as w
 use Rattle.js_lexer.specs.declared.token.TokenKind.{TokenKind}

@@ -76,3 +76,8 @@ pub fn functions_are_counted()
 pub fn brackets_are_closed()
     ensures { law.BracketsAreClosed }
 {}
+
+/// An expression that is one token has one tree.
+pub fn one_tree_of_a_token()
+    ensures { law.OneTreeOfAToken }
+{}
