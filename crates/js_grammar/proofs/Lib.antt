@@ -1,0 +1,12 @@
+pub mod Worked
+pub mod Placing
+pub mod Refusing
+pub mod Levels
+pub mod FormalLists
+pub mod Ending
+pub mod ReadingBack
+pub mod Starting
+pub mod Keys
+pub mod Breaking
+pub mod Counting
+pub mod Tokens

@@ -1,0 +1,17 @@
+pub mod Symbols
+pub mod Operators
+pub mod Names
+pub mod Contexts
+pub mod Ends
+pub mod Grammar
+pub mod Depth
+pub mod Nesting
+pub mod Accepted
+pub mod Fault
+pub mod Printed
+pub mod PrintedText
+pub mod Rows
+pub mod WellPlaced
+pub mod Laws
+pub mod RefusedRows
+pub mod ReadsBack
