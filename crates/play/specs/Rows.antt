@@ -13,6 +13,8 @@ use Rattle.js_parser.specs.First.{out_name}
 use Rattle.play.specs.Value.{ShownText, ShownObject}
 use Rattle.play.specs.Loader.{fresh, CallLine, UncaughtLine, IdleLine, WaitLine, AskLine, HereLine}
 use Rattle.play.specs.Walk.{Ended, end_of, walk}
+use Rattle.play.specs.Laws.{seen}
+use Rattle.play.specs.Laziness.{lazy_lines}
 
 abbrev pub items : List FirstItem
 items =
@@ -44,6 +46,11 @@ puts_back = refl
 
 pub original_steps : end_of (original (site_tree (1 ∷ 2 ∷ []) put_back) 100) ≡ Ended 27
 original_steps = refl
+
+-- and the lines of its marks, where the second function's entry is in cluster 1, are those of the report
+pub original_waits : lazy_lines (λ k. cond (nat_eq k 2) (Some 1) None) [] (seen (original (site_tree (1 ∷ 2 ∷ []) put_back) 100))
+    ≡ CallLine out_name (ShownText (codes "one") ∷ []) ∷ WaitLine 1 ∷ AskLine 1 ∷ HereLine 1 ∷ CallLine out_name (ShownText (codes "two") ∷ []) ∷ CallLine out_name (ShownText (codes "three") ∷ []) ∷ IdleLine ∷ []
+original_waits = refl
 
 -- a call of no function takes 4 steps, and its error leaves the script
 abbrev pub unbound : Trace
