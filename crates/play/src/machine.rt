@@ -121,7 +121,7 @@ impl Machine {
                 let letter = *letter;
                 self.call(table, letter)
             }
-            Some(FirstStatement::Out(_)) => self.out(table),
+            Some(FirstStatement::Out(_)) => self.call_host(table),
         }
     }
 
@@ -168,7 +168,7 @@ impl Machine {
     }
 
     /// A host call with a text.
-    fn out(&mut self, table: &Table) -> Result<Option<Halt>, AllocError>
+    fn call_host(&mut self, table: &Table) -> Result<Option<Halt>, AllocError>
         requires { IsOut self.old.place.rest }
         ensures turns { IfOk result (Turns table.now self.old self.new) }
         ensures falls { IfOk result (λ halt. halt ≡ None → work self.new < work self.old) }
