@@ -7,10 +7,13 @@ use Rattle.std.proofs.lemmas.List.{take-append-drop}
 use Rattle.std.proofs.lemmas.List.Elements.{All-weaker}
 use Rattle.js_parser.specs.declared.first.FirstStatement.{FirstStatement}
 use Rattle.js_parser.specs.declared.first.FirstStatement.TheVariants.{Call, Out}
+use Rattle.text_reader.specs.Reader.{pure, skip, run}
+use Rattle.text_reader.proofs.Joined.{carried, there, other_way, skipped, skips}
+use Rattle.text_reader.proofs.Bytes.{chosen_parts, same_parts, skip_sound, skip_again, run_passes, run_again}
 use Rattle.js_parser.specs.First.{IsLetter, IsPlainCharacter, IsStatement, statement_text}
-use Rattle.js_parser.specs.Reader.{pure, skip, letter, run, out, call, statement, statements, is_plain}
-use Rattle.js_parser.proofs.Bytes.{chosen_parts, same_parts, skip_sound, skip_again, letter_sound, letter_again, plain_true, plain_is, run_passes, run_again}
-use Rattle.js_parser.proofs.Joined.{Reads, carried, there, other_way, skipped, skips, many_sound, whole_list}
+use Rattle.js_parser.specs.Reader.{letter, out, call, statement, statements, is_plain}
+use Rattle.js_parser.proofs.Bytes.{letter_sound, letter_again, plain_true, plain_is}
+use Rattle.js_parser.proofs.Lists.{Reads, many_sound, whole_list}
 
 -- bytes that differ in their first or their second
 pub second_differs : (p b : ℕ) (ps bs : List ℕ) → skip ps bs ≡ None → skip (p ∷ ps) (b ∷ bs) ≡ None
