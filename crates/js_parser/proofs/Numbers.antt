@@ -4,7 +4,7 @@ use Rattle.std.specs.Fmt.{decimal}
 use Rattle.std.proofs.lemmas.Bool.Decides.{nat_tests}
 use Rattle.text_reader.specs.Reader as reader
 use Rattle.text_reader.proofs.Bytes.{then_parts, same_parts}
-use Rattle.text_reader.proofs.Numbers.{EndsNumber, decimal_sound, decimal_again}
+use Rattle.text_reader.proofs.Numbers.{decimal_before, decimal_sound}
 use Rattle.js_parser.specs.First.{IsFunctionNumber}
 use Rattle.js_parser.specs.Reader.{is_function_number, number}
 
@@ -29,6 +29,4 @@ number_sound bs rest k e =
 
 pub number_again : (k : ℕ) (c : ℕ) (r : List ℕ) → IsFunctionNumber k → reader.is_digit c ≡ false → number (decimal k ++ (c ∷ r)) ≡ Some (k, c ∷ r)
 unfolding number
-number_again k c r h e =
-    let ends : EndsNumber (c ∷ r) = record { first = c; others = r; is = refl; no_digit = e } in
-    rw (decimal_again k (c ∷ r) (omega arith) ends, number_true k h)
+number_again k c r h e = rw (decimal_before k c r (omega arith) e, number_true k h)

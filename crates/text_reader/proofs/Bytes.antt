@@ -1,10 +1,11 @@
 -- Readers of bytes: what they read, and that they read it again.
-use Rattle.std.proofs.Common.{◌≡◌, ℕ, suc, ◌+◌, ◌≤◌, Bool, true, false, ◌&&◌, cond, nat_eq, List, [], ◌∷◌, ◌++◌, Some, None, refl, ap, sym, subst, arith, rules, length, take, drop}
+use Rattle.std.proofs.Common.{◌≡◌, ◌≢◌, ℕ, suc, ◌+◌, ◌≤◌, Bool, true, false, ◌&&◌, cond, nat_eq, List, [], ◌∷◌, ◌++◌, Some, None, refl, ap, sym, subst, arith, rules, length, take, drop}
 use Rattle.std.specs.Prelude.{◌⊎◌}
 use Rattle.std.specs.List.{prefix_len, AllPass}
 use Rattle.std.specs.Cmp.Lexicographic.{pointwise}
 use Rattle.std.proofs.Common.{inl, inr}
 use Rattle.std.proofs.lemmas.Bool.Decides.{nat_tests}
+use Rattle.std.proofs.lemmas.List.{take-append-drop}
 use Rattle.std.proofs.lemmas.List.Elements.{All-nil, All-cons, All-head, All-tail, All-same}
 use Rattle.std.proofs.lemmas.Grind.{common_steps}
 use Rattle.text_reader.specs.Reader.{Found, Reader, and_then, chosen, skip, ended, one, run}
@@ -68,6 +69,15 @@ unfolding skip
 skip_again [] r = refl
 skip_again (c ∷ cs) r = let e : nat_eq c c ≡ true = search (rules, nat_tests) in rw e (skip_again cs r)
 
+-- bytes that differ from those given in their first or their second
+pub second_differs : (p b : ℕ) (ps bs : List ℕ) → skip ps bs ≡ None → skip (p ∷ ps) (b ∷ bs) ≡ None
+unfolding skip
+second_differs p b ps bs e = elim (nat_eq b p) as (λ v. cond v (skip ps bs) None ≡ None) [ true ↦ e | false ↦ refl ]
+
+pub first_differs : (p b : ℕ) (ps bs : List ℕ) → b ≢ p → skip (p ∷ ps) (b ∷ bs) ≡ None
+unfolding skip
+first_differs p b ps bs h = let e : nat_eq b p ≡ false = search (rules, nat_tests) in rw e
+
 -- ---- the end
 
 pub ended_is : (bs r : List ℕ) (u : Unit {0}) → ended bs ≡ Some (u, r) → (bs ≡ []) × (r ≡ [])
@@ -109,6 +119,13 @@ pub run_passes : (test : ℕ → Bool) (bs : List ℕ) → AllPass test (take (p
 run_passes test [] = All-nil (λ x. test x ≡ true)
 run_passes test (b ∷ bs) = front_passes test b bs (test b) refl (run_passes test bs)
 
+pub run_sound : (test : ℕ → Bool) (bs front rest : List ℕ) → run test bs ≡ Some (front, rest) → AllPass test front × (front ++ rest ≡ bs)
+unfolding run
+run_sound test bs front rest e =
+    let p = same_parts (take (prefix_len test bs) bs) front (drop (prefix_len test bs) bs) rest e in
+    let whole = take-append-drop (prefix_len test bs) bs in
+    (All-same (λ x. test x ≡ true) _ _ (sym p.0) (run_passes test bs), cc)
+
 pub run_length : (test : ℕ → Bool) (cs : List ℕ) (c : ℕ) (r : List ℕ) → AllPass test cs → test c ≡ false → prefix_len test (cs ++ (c ∷ r)) ≡ length cs
 run_length test [] c r h e = rw e
 run_length test (b ∷ bs) c r h e =
@@ -123,8 +140,17 @@ pub run_again : (test : ℕ → Bool) (cs : List ℕ) (c : ℕ) (r : List ℕ) �
 unfolding run
 run_again test cs c r h e = let p = take_front cs (c ∷ r) (prefix_len test (cs ++ (c ∷ r))) (run_length test cs c r h e) in cc
 
-pub run_front : (test : ℕ → Bool) (bs front rest : List ℕ) → run test bs ≡ Some (front, rest) → AllPass test front
+run_of_all : (test : ℕ → Bool) (cs : List ℕ) → AllPass test cs → prefix_len test cs ≡ length cs
+run_of_all test [] h = refl
+run_of_all test (b ∷ bs) h =
+    let yes : test b ≡ true = All-head (λ x. test x ≡ true) b bs h in
+    let more = run_of_all test bs (All-tail (λ x. test x ≡ true) b bs h) in
+    rw yes (omega (arith, more))
+
+pub run_to_end : (test : ℕ → Bool) (cs : List ℕ) → AllPass test cs → run test cs ≡ Some (cs, [])
 unfolding run
-run_front test bs front rest e =
-    let p = same_parts (take (prefix_len test bs) bs) front (drop (prefix_len test bs) bs) rest e in
-    All-same (λ x. test x ≡ true) _ _ (sym p.0) (run_passes test bs)
+run_to_end test cs h =
+    let e = run_of_all test cs h in
+    let front : take (prefix_len test cs) cs ≡ cs = grind (arith, common_steps) in
+    let rest : drop (prefix_len test cs) cs ≡ [] = grind (arith, common_steps) in
+    cc

@@ -1,5 +1,5 @@
 -- Readers that are joined: what a whole says of its parts, and the parts of the whole.
-use Rattle.std.proofs.Common.{◌≡◌, List, ◌++◌, Some, None, ap, sym, ◌∙◌, subst, ℕ}
+use Rattle.std.proofs.Common.{◌≡◌, ℕ, List, ◌++◌, Some, None, ap, sym, ◌∙◌, subst}
 use Rattle.text_reader.specs.Reader.{Found, Reader, ◌>>=◌, ◌>>◌, pure, either, skip}
 use Rattle.text_reader.proofs.Bytes.{then_parts, same_parts, skip_sound, skip_again}
 

@@ -1,15 +1,15 @@
 -- A number that is read is the one whose decimal digits stand there.
-use Rattle.std.proofs.Common.{◌≡◌, ℕ, zero, suc, ◌+◌, ◌-◌, ◌*◌, ◌^◌, ◌≤◌, ◌<◌, Bool, true, false, cond, nat_eq, List, [], ◌∷◌, ◌++◌, Option, Some, None, refl, ap, sym, ◌∙◌, arith, rules, length, take, drop, get_or}
-use Rattle.std.specs.List.{prefix_len, AllPass, list_all}
+use Rattle.std.proofs.Common.{◌≡◌, ℕ, zero, suc, ◌+◌, ◌-◌, ◌*◌, ◌^◌, ◌≤◌, ◌<◌, Bool, true, false, cond, List, [], ◌∷◌, ◌++◌, Option, Some, None, refl, ap, sym, ◌∙◌, arith, rules, length, drop, get_or}
+use Rattle.std.specs.List.{AllPass, list_all}
 use Rattle.std.specs.Fmt.{decimal}
 use Rattle.std.proofs.lemmas.Bool.Decides.{nat_tests}
 use Rattle.std.proofs.lemmas.Str.Parse.{IsNumeralModel, numerals_by_fold}
 use Rattle.std.proofs.lemmas.Fmt.{digits_decimal, digits_value-decimal, decimal_nonempty, first_decimal, decimal_digit, decimal-digits_value}
 use Rattle.std.proofs.lemmas.List.Sums.{AllPass-from_list_all, list_all-from_AllPass}
-use Rattle.std.proofs.lemmas.List.{take-append-drop, at_drop_more}
+use Rattle.std.proofs.lemmas.List.{at_drop_more}
 use Rattle.text_reader.specs.Reader.{skip, run, is_digit, value_after, is_numeral, number_of, numbered}
 use Rattle.text_reader.specs.Reader as reader
-use Rattle.text_reader.proofs.Bytes.{same_parts, run_passes, run_again}
+use Rattle.text_reader.proofs.Bytes.{then_parts, same_parts, first_differs, run_sound, run_again, run_to_end}
 
 -- a text that goes on with no digit
 pub record EndsNumber (r : List ℕ) : Type 0 where
@@ -69,36 +69,38 @@ numbered_is (Some n) bs rest k e = let p = same_parts n k bs rest e in (ap (λ x
 numbered_is None bs rest k e = (cc, cc)
 
 pub decimal_sound : (bs rest : List ℕ) (k : ℕ) → reader.decimal bs ≡ Some (k, rest) → (k < 2 ^ 32) × (decimal k ++ rest ≡ bs)
-unfolding reader.decimal run
+unfolding reader.decimal
 decimal_sound bs rest k e =
-    let n = prefix_len is_digit bs in
-    let h = numbered_is (number_of (take n bs)) (drop n bs) rest k e in
-    let w = number_of_sound (take n bs) k (run_passes is_digit bs) h.0 in
-    let whole = take-append-drop n bs in
+    let p = then_parts (run is_digit bs) (λ ds. numbered (number_of ds)) (k, rest) e in
+    let front = run_sound is_digit bs p.0.0 p.0.1 p.1 in
+    let h = numbered_is (number_of p.0.0) p.0.1 rest k p.2 in
+    let w = number_of_sound p.0.0 k front.0 h.0 in
     (w.0, cc)
 
 decimal_passes : (k : ℕ) → k < 2 ^ 32 → AllPass is_digit (decimal k)
 decimal_passes k h = let below : k < 2 ^ 64 = omega arith in AllPass-from_list_all is_digit (decimal k) (digits_decimal own k below)
 
 not_first : (c : ℕ) (ds r : List ℕ) → is_digit c ≡ false → 0 < length ds → AllPass is_digit ds → skip (c ∷ []) (ds ++ r) ≡ None
-unfolding skip
 not_first c [] r e l a = absurd (omega arith)
 not_first c (d ∷ ds) r e l a =
     let digit : is_digit d ≡ true = a 0 0 (omega arith) in
-    let other : nat_eq d c ≡ false = grind (arith, nat_tests) in
-    rw other
+    first_differs c d [] (ds ++ r) (grind (arith, nat_tests))
 
 -- a number begins with no other byte than a digit
 pub decimal_not : (c k : ℕ) (r : List ℕ) → is_digit c ≡ false → k < 2 ^ 32 → skip (c ∷ []) (decimal k ++ r) ≡ None
 decimal_not c k r e h = let below : k < 2 ^ 64 = omega arith in not_first c (decimal k) r e (decimal_nonempty k below) (decimal_passes k h)
 
-again_at : (k : ℕ) (c : ℕ) (r : List ℕ) → k < 2 ^ 32 → is_digit c ≡ false → reader.decimal (decimal k ++ (c ∷ r)) ≡ Some (k, c ∷ r)
+pub decimal_before : (k : ℕ) (c : ℕ) (r : List ℕ) → k < 2 ^ 32 → is_digit c ≡ false → reader.decimal (decimal k ++ (c ∷ r)) ≡ Some (k, c ∷ r)
 unfolding reader.decimal
-again_at k c r h e =
+decimal_before k c r h e =
     rw (run_again is_digit (decimal k) c r (decimal_passes k h) e, number_of_again k h)
 
 pub decimal_again : (k : ℕ) (r : List ℕ) → k < 2 ^ 32 → EndsNumber r → reader.decimal (decimal k ++ r) ≡ Some (k, r)
-decimal_again k r h e = rw e.is (again_at k e.first e.others h e.no_digit)
+decimal_again k r h e = rw e.is (decimal_before k e.first e.others h e.no_digit)
+
+pub decimal_at_end : (k : ℕ) → k < 2 ^ 32 → reader.decimal (decimal k) ≡ Some (k, [])
+unfolding reader.decimal
+decimal_at_end k h = rw (run_to_end is_digit (decimal k) (decimal_passes k h), number_of_again k h)
 
 -- ---- a loop over digits
 

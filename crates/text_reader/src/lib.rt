@@ -1,14 +1,16 @@
 //! Readers: bytes that are read from their front.
 //!
-//! A reader of `specs/Reader.antt` says what stands at the front of a text and what is left, and a `Cursor` holds what is left while functions
-//! read it. It stands on the standard library alone. The layers above write their grammars as readers, and may know of a cursor
-//! only the bytes that it still has, and of each call that it gives what the reader of the same name does (`Gives`, `Eats`); the lemmas of
-//! `proofs/` say what each reader reads, and that it reads it again.
+//! A reader of `specs/Reader.antt` is a function that says what stands at the front of a text, and what is left behind it. A `Cursor` holds
+//! what is left, and its calls do what readers say (`specs/Gives.antt`). It stands on the standard library alone. The layers above write
+//! their grammars as readers. They may know of a cursor only the bytes that it still has, and of readers what the lemmas of `proofs/` say: that
+//! they read nothing but what has the text, and that they read it again.
 #![tactic(auto)]
 
 mod cursor;
+mod laws;
 mod numeral;
 #[cfg(test)]
 mod tests;
 
 pub use cursor::{Cursor, Refusal};
+pub use laws::decimals_read_back;
