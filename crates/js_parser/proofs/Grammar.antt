@@ -1,25 +1,17 @@
 -- Each rule of the first grammar, as its reader reads it: just the values of the rule, each from its text.
-use Rattle.std.proofs.Common.{◌≡◌, ◌≢◌, ℕ, ◌+◌, ◌≤◌, ◌<◌, true, false, cond, nat_eq, List, [], ◌∷◌, ◌++◌, Some, None, refl, ap, sym, ◌∙◌, subst, append_assoc, arith, rules, length, take, drop, inl, inr}
+use Rattle.std.proofs.Common.{◌≡◌, ℕ, ◌+◌, ◌≤◌, ◌<◌, true, List, [], ◌∷◌, ◌++◌, Some, None, refl, ap, sym, ◌∙◌, subst, append_assoc, arith, length, inl, inr}
 use Rattle.std.specs.Prelude.{◌⊎◌, All, codes}
-use Rattle.std.specs.List.{flat_map, prefix_len}
-use Rattle.std.proofs.lemmas.Bool.Decides.{nat_tests}
-use Rattle.std.proofs.lemmas.List.{take-append-drop}
+use Rattle.std.specs.List.{flat_map}
 use Rattle.std.proofs.lemmas.List.Elements.{All-weaker}
 use Rattle.js_parser.specs.declared.first.FirstStatement.{FirstStatement}
 use Rattle.js_parser.specs.declared.first.FirstStatement.TheVariants.{Call, Out}
+use Rattle.text_reader.specs.Reader.{pure, skip}
+use Rattle.text_reader.proofs.Joined.{carried, there, other_way, skipped, skips}
+use Rattle.text_reader.proofs.Bytes.{chosen_parts, skip_sound, skip_again, first_differs, second_differs, run_sound, run_again}
 use Rattle.js_parser.specs.First.{IsLetter, IsPlainCharacter, IsStatement, statement_text}
-use Rattle.js_parser.specs.Reader.{pure, skip, letter, run, out, call, statement, statements, is_plain}
-use Rattle.js_parser.proofs.Bytes.{chosen_parts, same_parts, skip_sound, skip_again, letter_sound, letter_again, plain_true, plain_is, run_passes, run_again}
-use Rattle.js_parser.proofs.Joined.{Reads, carried, there, other_way, skipped, skips, many_sound, whole_list}
-
--- bytes that differ in their first or their second
-pub second_differs : (p b : ℕ) (ps bs : List ℕ) → skip ps bs ≡ None → skip (p ∷ ps) (b ∷ bs) ≡ None
-unfolding skip
-second_differs p b ps bs e = elim (nat_eq b p) as (λ v. cond v (skip ps bs) None ≡ None) [ true ↦ e | false ↦ refl ]
-
-pub first_differs : (p b : ℕ) (ps bs : List ℕ) → b ≢ p → skip (p ∷ ps) (b ∷ bs) ≡ None
-unfolding skip
-first_differs p b ps bs h = let e : nat_eq b p ≡ false = search (rules, nat_tests) in rw e
+use Rattle.js_parser.specs.Reader.{letter, characters, out, call, statement, statements, is_plain}
+use Rattle.js_parser.proofs.Bytes.{letter_sound, letter_again, plain_true, plain_is}
+use Rattle.js_parser.proofs.Lists.{Reads, many_sound, whole_list}
 
 -- ---- statements
 
@@ -27,16 +19,12 @@ IsFound : {A : Type 0} (P : A → Type 0) (text : A → List ℕ) (bs : List ℕ
 IsFound P text bs x rest = P x × (text x ++ rest ≡ bs)
 
 out_sound : (bs rest : List ℕ) (s : FirstStatement) → out bs ≡ Some (s, rest) → IsStatement s × (statement_text s ++ rest ≡ codes "host.out(\"" ++ bs)
-unfolding run
 out_sound bs rest s e =
-    let n = prefix_len is_plain bs in
-    let h = skipped (run is_plain) (codes "\");") (λ cs. pure (Out cs)) bs (s, rest) e in
-    let front = same_parts (take n bs) h.0 (drop n bs) (codes "\");" ++ h.1) h.2 in
-    let plain = All-weaker (λ c. is_plain c ≡ true) IsPlainCharacter plain_is (take n bs) (run_passes is_plain bs) in
-    let plain' : All IsPlainCharacter h.0 = subst (All IsPlainCharacter) front.0 plain in
-    let joined : h.0 ++ (codes "\");" ++ h.1) ≡ bs = subst (λ v. h.0 ++ v ≡ bs) front.1 (subst (λ v. v ++ drop n bs ≡ bs) front.0 (take-append-drop n bs)) in
-    let texts : statement_text (Out h.0) ++ h.1 ≡ codes "host.out(\"" ++ bs = ap (λ v. codes "host.out(\"" ++ v) (append_assoc h.0 (codes "\");") h.1 ∙ joined) in
-    carried (λ s rest. IsStatement s × (statement_text s ++ rest ≡ codes "host.out(\"" ++ bs)) (Out h.0) s h.1 rest h.3 (plain', texts)
+    let h = skipped characters (codes "\");") (λ cs. pure (Out cs)) bs (s, rest) e in
+    let w = run_sound is_plain bs h.0 (codes "\");" ++ h.1) h.2 in
+    let plain = All-weaker (λ c. is_plain c ≡ true) IsPlainCharacter plain_is h.0 w.0 in
+    let texts : statement_text (Out h.0) ++ h.1 ≡ codes "host.out(\"" ++ bs = ap (λ v. codes "host.out(\"" ++ v) (append_assoc h.0 (codes "\");") h.1 ∙ w.1) in
+    carried (λ s rest. IsStatement s × (statement_text s ++ rest ≡ codes "host.out(\"" ++ bs)) (Out h.0) s h.1 rest h.3 (plain, texts)
 
 call_sound : (bs rest : List ℕ) (s : FirstStatement) → call bs ≡ Some (s, rest) → IsStatement s × (statement_text s ++ rest ≡ bs)
 call_sound bs rest s e =
@@ -69,7 +57,7 @@ call_no_out c rest = second_differs 104 c (codes "ost.out(\"") (codes "();" ++ r
 out_again : (cs rest : List ℕ) → All IsPlainCharacter cs → out (cs ++ (codes "\");" ++ rest)) ≡ Some (Out cs, rest)
 out_again cs rest h =
     let plain = All-weaker IsPlainCharacter (λ c. is_plain c ≡ true) plain_true cs h in
-    skips (run is_plain) (codes "\");") (λ cs. pure (Out cs)) (cs ++ (codes "\");" ++ rest)) rest cs (run_again is_plain cs 34 (codes ");" ++ rest) plain refl)
+    skips characters (codes "\");") (λ cs. pure (Out cs)) (cs ++ (codes "\");" ++ rest)) rest cs (run_again is_plain cs 34 (codes ");" ++ rest) plain refl)
 
 out_text : (h cs d rest : List ℕ) → (h ++ (cs ++ d)) ++ rest ≡ h ++ (cs ++ (d ++ rest))
 out_text h cs d rest = append_assoc h (cs ++ d) rest ∙ ap (λ v. h ++ v) (append_assoc cs d rest)

@@ -8,32 +8,18 @@ use Rattle.js_parser.specs.declared.first.FirstStatement.{FirstStatement}
 use Rattle.js_parser.specs.declared.first.FirstItem.{FirstItem}
 use Rattle.js_parser.specs.declared.first.FirstScript.{FirstScript}
 use Rattle.js_parser.specs.declared.first.FirstEntry.{FirstEntry}
+use Rattle.text_reader.specs.Reader.{Found, Reader, and_then, pure, ◌>>=◌, ◌>>◌, skip, ended}
+use Rattle.text_reader.proofs.Joined.{carried, skipped, skips}
+use Rattle.text_reader.proofs.Bytes.{chosen_parts, then_parts, same_parts, ended_is, ended_again, not_ended}
 use Rattle.js_parser.specs.First.{IsItem, IsEntry, statement_text, script_text, entry_text, cluster_text}
-use Rattle.js_parser.specs.Reader.{Found, Reader, and_then, pure, ◌>>=◌, ◌>>◌, skip, ended, number, many, statements, items, script, entry, entries, whole, read_script, read_cluster}
-use Rattle.js_parser.proofs.Bytes.{chosen_parts, then_parts, same_parts}
+use Rattle.js_parser.specs.Reader.{number, many, statements, items, script, entry, entries, whole, read_script, read_cluster}
 use Rattle.js_parser.proofs.Numbers.{number_sound, number_again}
-use Rattle.js_parser.proofs.Joined.{Reads, carried, skipped, skips, many_sound, whole_list}
+use Rattle.js_parser.proofs.Lists.{Reads, many_sound, whole_list}
 use Rattle.js_parser.proofs.Grammar.{closed_text, statements_reads}
 use Rattle.js_parser.proofs.Scripts.{items_reads}
 
 ended_sound : (bs r : List ℕ) → ended bs ≡ Some (tt, r) → [] ++ r ≡ bs
-unfolding ended
-ended_sound [] r e = sym (same_parts tt tt [] r e).1
-ended_sound (b ∷ bs) r e = cc
-
-at_end : (bs r : List ℕ) → ended bs ≡ Some (tt, r) → (bs ≡ []) × (r ≡ [])
-unfolding ended
-at_end [] r e = (refl, sym (same_parts tt tt [] r e).1)
-at_end (b ∷ bs) r e = cc
-
-ended_again : ended [] ≡ Some (tt, [])
-unfolding ended
-ended_again = refl
-
-not_ended : (bs : List ℕ) → 1 ≤ length bs → ended bs ≡ None
-unfolding ended
-not_ended [] h = absurd (omega arith)
-not_ended (b ∷ bs) h = refl
+ended_sound bs r e = let p = ended_is bs r tt e in p.1 ∙ sym p.0
 
 -- ---- scripts
 
@@ -45,7 +31,7 @@ unfolding script
 script_sound bs rest s e =
     let p = then_parts (items bs) (λ is. ended >> pure (script_of is)) (s, rest) e in
     let q = then_parts (ended p.0.1) (λ _. pure (script_of p.0.0)) (s, rest) p.2 in
-    let last = at_end p.0.1 q.0.1 q.1 in
+    let last = ended_is p.0.1 q.0.1 tt q.1 in
     let w = items_reads.sound bs p.0.1 p.0.0 p.1 in
     let text : script_text (script_of p.0.0) ≡ bs = sym (append-nil (script_text (script_of p.0.0))) ∙ ap (λ v. script_text (script_of p.0.0) ++ v) (sym last.0) ∙ w.1 in
     let same = same_parts (script_of p.0.0) s q.0.1 rest q.2 in
@@ -133,7 +119,7 @@ entries_sound bs rest xs e =
 stop_by : (n : ℕ) (found : List FirstEntry) (bs : List ℕ) (xs : List FirstEntry) (r : List ℕ)
     → ((x : FirstEntry) (rest : List ℕ) → many ended entry n (found ++ x ∷ []) rest ≡ Some (xs, r) → r ≡ [])
     → ((r' : List ℕ) × (ended bs ≡ Some (tt, r')) × (pure found r' ≡ Some (xs, r))) ⊎ ((ended bs ≡ None) × (and_then (entry bs) (λ x. many ended entry n (found ++ x ∷ [])) ≡ Some (xs, r))) → r ≡ []
-stop_by n found bs xs r more (inl h) = sym (same_parts found xs h.0 r h.2).1 ∙ (at_end bs h.0 h.1).1
+stop_by n found bs xs r more (inl h) = sym (same_parts found xs h.0 r h.2).1 ∙ (ended_is bs h.0 tt h.1).1
 stop_by n found bs xs r more (inr h) =
     let p = then_parts (entry bs) (λ x. many ended entry n (found ++ x ∷ [])) (xs, r) h.1 in
     more p.0.0 p.0.1 p.2

@@ -1,7 +1,6 @@
 pub mod Bytes
 pub mod Numbers
-pub mod Turns
-pub mod Joined
+pub mod Lists
 pub mod Grammar
 pub mod Scripts
 pub mod Laws

@@ -10,12 +10,15 @@ use Rattle.js_parser.specs.declared.first.FirstBody.TheVariants.{Statements, Stu
 use Rattle.js_parser.specs.declared.first.FirstFunction.{FirstFunction}
 use Rattle.js_parser.specs.declared.first.FirstItem.{FirstItem}
 use Rattle.js_parser.specs.declared.first.FirstItem.TheVariants.{Statement, Function}
+use Rattle.text_reader.specs.Reader.{Reader, pure, ◌>>=◌, skip}
+use Rattle.text_reader.proofs.Joined.{carried, skipped, skips, mapped, maps, there, other_way}
+use Rattle.text_reader.proofs.Bytes.{chosen_parts, skip_sound, skip_again, first_differs, second_differs}
 use Rattle.js_parser.specs.First.{IsLetter, IsFunctionNumber, IsBody, IsItem, statement_text, body_text, item_text}
-use Rattle.js_parser.specs.Reader.{Reader, pure, ◌>>=◌, skip, letter, number, statement, statements, stub, plain_body, body, function, function_item, statement_item, item, items}
-use Rattle.js_parser.proofs.Bytes.{chosen_parts, skip_sound, skip_again, letter_sound, letter_again}
+use Rattle.js_parser.specs.Reader.{letter, number, statement, statements, stub, plain_body, body, function, function_item, statement_item, item, items}
+use Rattle.js_parser.proofs.Bytes.{letter_sound, letter_again}
 use Rattle.js_parser.proofs.Numbers.{number_sound, number_again}
-use Rattle.js_parser.proofs.Joined.{Reads, carried, skipped, skips, mapped, maps, there, other_way, many_sound, whole_list}
-use Rattle.js_parser.proofs.Grammar.{first_differs, second_differs, closed_text, statement_reads, statements_reads}
+use Rattle.js_parser.proofs.Lists.{Reads, many_sound, whole_list}
+use Rattle.js_parser.proofs.Grammar.{closed_text, statement_reads, statements_reads}
 
 -- ---- bodies
 

@@ -1,6 +1,5 @@
 pub mod First
 pub mod Reader
-pub mod Gives
 -- what the public clauses cite of the crate below
 pub use Rattle.js_tree.specs.Tree
 pub use Rattle.js_tree.specs.Plain

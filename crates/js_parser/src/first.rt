@@ -1,4 +1,4 @@
-mod cursor;
+mod bytes;
 mod parse;
 mod read;
 #[cfg(test)]

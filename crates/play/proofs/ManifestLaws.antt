@@ -8,11 +8,13 @@ use Rattle.std.proofs.lemmas.List.Elements.{All-nil, All-cons, All-head, All-tai
 use Rattle.js_parser.specs.First.{IsFunctionNumber}
 use Rattle.play.specs.declared.manifest.ClusterLine.{ClusterLine}
 use Rattle.play.specs.declared.manifest.Manifest.{Manifest}
+use Rattle.text_reader.specs.Reader.{Found, Reader, ◌>>=◌, ◌>>◌, pure, skip, ended}
+use Rattle.text_reader.proofs.Numbers.{EndsNumber, decimal_sound, decimal_again}
+use Rattle.text_reader.proofs.Joined.{skipped, skips, begins, begins_again}
+use Rattle.text_reader.proofs.Bytes.{then_parts, same_parts}
 use Rattle.play.specs.Manifest.{numbers_text, cluster_lines, manifest_text, cluster_numbers, IsClusterLine, IsManifest}
-use Rattle.play.specs.ManifestReader.{Found, Reader, ◌>>=◌, ◌>>◌, pure, skip, ended, number, numbers, clusters, manifest, is_manifest, of_form, read_manifest}
-use Rattle.play.proofs.ManifestBytes.{then_parts, same_parts}
-use Rattle.play.proofs.ManifestNumbers.{EndsNumber, number_sound, number_again}
-use Rattle.play.proofs.ManifestLists.{skipped, skips, begins, begins_again}
+use Rattle.text_reader.specs.Reader as reader
+use Rattle.play.specs.ManifestReader.{numbers, clusters, manifest, is_manifest, of_form, read_manifest}
 use Rattle.play.proofs.ManifestLines.{Fits, FitsLine, numbers_sound, numbers_again, clusters_sound, clusters_again}
 use Rattle.play.proofs.ManifestForm.{manifest_is, manifest_true}
 
@@ -34,7 +36,7 @@ abbrev after_bytes : ℕ → Reader Manifest
 after_bytes bytes = numbers >>= (λ plain. skip (codes "\n") >> after_plain bytes plain)
 
 abbrev after_head : Reader Manifest
-after_head = number >>= (λ bytes. skip (codes " ") >> after_bytes bytes)
+after_head = reader.decimal >>= (λ bytes. skip (codes " ") >> after_bytes bytes)
 
 ended_is : (bs rest : List ℕ) (u : Unit {0}) → ended bs ≡ Some (u, rest) → (bs ≡ []) × (rest ≡ [])
 unfolding ended
@@ -59,11 +61,11 @@ lines_sound : (bs : List ℕ) (m : Manifest) (rest : List ℕ) → manifest bs �
 unfolding manifest
 lines_sound bs m rest e =
     let s = begins head after_head bs (m, rest) e in
-    let f = skipped number (codes " ") after_bytes s.0 (m, rest) s.2 in
+    let f = skipped reader.decimal (codes " ") after_bytes s.0 (m, rest) s.2 in
     let g = skipped numbers (codes "\n") (after_plain f.0) f.1 (m, rest) f.3 in
     let h = skipped clusters (codes "end\n") (λ cs. at_end (manifest_of f.0 g.0 cs)) g.1 (m, rest) g.3 in
     let last = end_parts (manifest_of f.0 g.0 h.0) m h.1 rest h.3 in
-    let b = number_sound s.0 (codes " " ++ f.1) f.0 f.2 in
+    let b = decimal_sound s.0 (codes " " ++ f.1) f.0 f.2 in
     let p = numbers_sound f.1 g.0 (codes "\n" ++ g.1) g.2 in
     let c = clusters_sound g.1 h.0 (codes "end\n" ++ h.1) h.2 in
     let lines : flat_map cluster_lines h.0 ++ codes "end\n" ≡ g.1 = ap (λ v. flat_map cluster_lines h.0 ++ (codes "end\n" ++ v)) (sym last.0) ∙ c.1 in
@@ -79,7 +81,7 @@ lines_again m fits plain lines =
     let feed : EndsNumber (10 ∷ cs) = record { first = 10; others = cs; is = refl; no_digit = refl } in
     let space : EndsNumber (32 ∷ ps) = record { first = 32; others = ps; is = refl; no_digit = refl } in
     begins_again head after_head (decimal m.script_bytes ++ (32 ∷ ps))
-    ∙ skips number (codes " ") after_bytes (decimal m.script_bytes ++ (32 ∷ ps)) ps m.script_bytes (number_again m.script_bytes (32 ∷ ps) fits space)
+    ∙ skips reader.decimal (codes " ") after_bytes (decimal m.script_bytes ++ (32 ∷ ps)) ps m.script_bytes (decimal_again m.script_bytes (32 ∷ ps) fits space)
     ∙ skips numbers (codes "\n") (after_plain m.script_bytes) ps cs m.plain (numbers_again m.plain (10 ∷ cs) plain refl feed)
     ∙ skips clusters (codes "end\n") (λ cs. at_end (manifest_of m.script_bytes m.plain cs)) cs [] m.clusters (clusters_again m.clusters (codes "end\n") lines refl refl)
     ∙ end_again m

@@ -5,18 +5,21 @@ use Rattle.std.specs.List.{flat_map}
 use Rattle.std.specs.Fmt.{decimal}
 use Rattle.std.proofs.lemmas.List.Elements.{All-nil, All-cons, All-head, All-tail}
 use Rattle.play.specs.declared.manifest.ClusterLine.{ClusterLine}
+use Rattle.text_reader.specs.Reader.{Reader, ◌>>=◌, ◌>>◌, pure, skip}
+use Rattle.text_reader.proofs.Numbers.{EndsNumber, decimal_sound, decimal_again, decimal_not}
+use Rattle.text_reader.proofs.Joined.{carried, skipped, skips, mapped, maps}
+use Rattle.text_reader.proofs.Bytes.{then_parts, chosen_parts, skip_sound, skip_again}
 use Rattle.play.specs.Manifest.{more_numbers, numbers_text, entry_line, cluster_lines}
-use Rattle.play.specs.ManifestReader.{Reader, ◌>>=◌, ◌>>◌, pure, skip, number, numbers_after, some_numbers, numbers, entry, entries, cluster, clusters}
-use Rattle.play.proofs.ManifestBytes.{then_parts, chosen_parts, skip_sound, skip_again}
-use Rattle.play.proofs.ManifestNumbers.{EndsNumber, number_sound, number_again, no_dash}
-use Rattle.play.proofs.ManifestLists.{carried, skipped, skips, mapped, maps, Reads, each_sound, whole_list}
+use Rattle.text_reader.specs.Reader as reader
+use Rattle.play.specs.ManifestReader.{numbers_after, some_numbers, numbers, entry, entries, cluster, clusters}
+use Rattle.play.proofs.ManifestLists.{Reads, each_sound, whole_list}
 
 -- a number that fits its type
 abbrev pub Fits : ℕ → Type 0
 Fits k = k < 2 ^ 32
 
-number_reads : Reads Fits decimal EndsNumber number
-number_reads = record { sound = number_sound; again = number_again }
+number_reads : Reads Fits decimal EndsNumber reader.decimal
+number_reads = record { sound = decimal_sound; again = decimal_again }
 
 -- ---- numbers
 
@@ -30,13 +33,13 @@ comma r = record { first = 44; others = r; is = refl; no_digit = refl }
 after_sound : (found bs ys rest : List ℕ) → numbers_after found bs ≡ Some (ys, rest) → (ns : List ℕ) × (ys ≡ found ++ ns) × All Fits ns × (more_numbers ns ++ rest ≡ bs)
 unfolding numbers_after
 after_sound found bs ys rest e =
-    let w = each_sound Fits decimal EndsNumber number number_reads (codes ",") (length bs + 1) found bs ys rest e in
+    let w = each_sound Fits decimal EndsNumber reader.decimal number_reads (codes ",") (length bs + 1) found bs ys rest e in
     (w.0, w.1, w.2, ap (λ v. v ++ rest) (more_is w.0) ∙ w.3)
 
 after_again : (found ns rest : List ℕ) → All Fits ns → skip (codes ",") rest ≡ None → EndsNumber rest → numbers_after found (more_numbers ns ++ rest) ≡ Some (found ++ ns, rest)
 unfolding numbers_after
 after_again found ns rest a e h =
-    rw (more_is ns) (whole_list Fits decimal EndsNumber number number_reads (codes ",") comma (omega arith) ns found rest a e h)
+    rw (more_is ns) (whole_list Fits decimal EndsNumber reader.decimal number_reads (codes ",") comma (omega arith) ns found rest a e h)
 
 ends_more : (ns rest : List ℕ) → EndsNumber rest → EndsNumber (more_numbers ns ++ rest)
 ends_more [] rest h = h
@@ -47,8 +50,8 @@ AreNumbers bs ns rest = All Fits ns × (numbers_text ns ++ rest ≡ bs)
 
 some_sound : (bs ns rest : List ℕ) → some_numbers bs ≡ Some (ns, rest) → AreNumbers bs ns rest
 some_sound bs ns rest e =
-    let p = then_parts (number bs) (λ first. numbers_after (first ∷ [])) (ns, rest) e in
-    let n = number_sound bs p.0.1 p.0.0 p.1 in
+    let p = then_parts (reader.decimal bs) (λ first. numbers_after (first ∷ [])) (ns, rest) e in
+    let n = decimal_sound bs p.0.1 p.0.0 p.1 in
     let w = after_sound (p.0.0 ∷ []) p.0.1 ns rest p.2 in
     let joined : (decimal p.0.0 ++ more_numbers w.0) ++ rest ≡ bs = append_assoc (decimal p.0.0) (more_numbers w.0) rest ∙ ap (λ v. decimal p.0.0 ++ v) w.3 ∙ n.1 in
     let P : List ℕ → Type 0 = λ v. AreNumbers bs v rest in
@@ -68,8 +71,8 @@ numbers_again [] rest a e h = rw (skip_again (codes "-") rest)
 numbers_again (n ∷ ns) rest a e h =
     let here = All-head Fits n ns a in
     let more = more_numbers ns ++ rest in
-    let read = number_again n more here (ends_more ns rest h) in
-    rw (append_assoc (decimal n) (more_numbers ns) rest, no_dash n more here, read) (after_again (n ∷ []) ns rest (All-tail Fits n ns a) e h)
+    let read = decimal_again n more here (ends_more ns rest h) in
+    rw (append_assoc (decimal n) (more_numbers ns) rest, decimal_not 45 n more refl here, read) (after_again (n ∷ []) ns rest (All-tail Fits n ns a) e h)
 
 -- ---- entries
 
@@ -82,8 +85,8 @@ Anything r = Unit {0}
 entry_sound : (bs rest : List ℕ) (k : ℕ) → entry bs ≡ Some (k, rest) → Fits k × (entry_text k ++ rest ≡ bs)
 unfolding entry
 entry_sound bs rest k e =
-    let h = skipped number (codes " -\n") pure bs (k, rest) e in
-    let n = number_sound bs (codes " -\n" ++ h.1) h.0 h.2 in
+    let h = skipped reader.decimal (codes " -\n") pure bs (k, rest) e in
+    let n = decimal_sound bs (codes " -\n" ++ h.1) h.0 h.2 in
     carried (λ k rest. Fits k × (entry_text k ++ rest ≡ bs)) h.0 k h.1 rest h.3 (n.0, append_assoc (decimal h.0) (codes " -\n") h.1 ∙ n.1)
 
 space : (r : List ℕ) → EndsNumber (32 ∷ r)
@@ -95,8 +98,8 @@ line_feed r = record { first = 10; others = r; is = refl; no_digit = refl }
 entry_again : (k : ℕ) (rest : List ℕ) → Fits k → Anything rest → entry (entry_text k ++ rest) ≡ Some (k, rest)
 unfolding entry
 entry_again k rest h u =
-    let read = number_again k (codes " -\n" ++ rest) h (space (45 ∷ 10 ∷ rest)) in
-    rw (append_assoc (decimal k) (codes " -\n") rest) (skips number (codes " -\n") pure (decimal k ++ (codes " -\n" ++ rest)) rest k read)
+    let read = decimal_again k (codes " -\n" ++ rest) h (space (45 ∷ 10 ∷ rest)) in
+    rw (append_assoc (decimal k) (codes " -\n") rest) (skips reader.decimal (codes " -\n") pure (decimal k ++ (codes " -\n" ++ rest)) rest k read)
 
 entry_reads : Reads Fits entry_text Anything entry
 entry_reads = record { sound = entry_sound; again = entry_again }
@@ -133,16 +136,16 @@ abbrev after_bytes : ℕ → ℕ → Reader ClusterLine
 after_bytes n bytes = entries >>= (λ ks. pure (line_of n bytes ks))
 
 abbrev after_number : ℕ → Reader ClusterLine
-after_number n = number >>= (λ bytes. skip (codes "\n") >> after_bytes n bytes)
+after_number n = reader.decimal >>= (λ bytes. skip (codes "\n") >> after_bytes n bytes)
 
 cluster_sound : (bs rest : List ℕ) (c : ClusterLine) → cluster bs ≡ Some (c, rest) → FitsLine c × (cluster_text c ++ rest ≡ bs)
 unfolding cluster
 cluster_sound bs rest c e =
-    let g = skipped number (codes " ") after_number bs (c, rest) e in
-    let h = skipped number (codes "\n") (after_bytes g.0) g.1 (c, rest) g.3 in
+    let g = skipped reader.decimal (codes " ") after_number bs (c, rest) e in
+    let h = skipped reader.decimal (codes "\n") (after_bytes g.0) g.1 (c, rest) g.3 in
     let w = mapped entries (line_of g.0 h.0) h.1 rest c h.3 in
-    let n = number_sound bs (codes " " ++ g.1) g.0 g.2 in
-    let b = number_sound g.1 (codes "\n" ++ h.1) h.0 h.2 in
+    let n = decimal_sound bs (codes " " ++ g.1) g.0 g.2 in
+    let b = decimal_sound g.1 (codes "\n" ++ h.1) h.0 h.2 in
     let ks = entries_sound h.1 w.0 rest w.1 in
     let lines = flat_map entry_line w.0 in
     let joined : (decimal g.0 ++ (32 ∷ (decimal h.0 ++ (10 ∷ lines)))) ++ rest ≡ bs =
@@ -155,11 +158,11 @@ unfolding cluster
 cluster_again c rest h e =
     let lines = flat_map entry_line c.entries in
     let tail = decimal c.bytes ++ (10 ∷ (lines ++ rest)) in
-    let n = number_again c.cluster (32 ∷ tail) h.cluster (space tail) in
-    let b = number_again c.bytes (10 ∷ (lines ++ rest)) h.bytes (line_feed (lines ++ rest)) in
+    let n = decimal_again c.cluster (32 ∷ tail) h.cluster (space tail) in
+    let b = decimal_again c.bytes (10 ∷ (lines ++ rest)) h.bytes (line_feed (lines ++ rest)) in
     rw (append_assoc (decimal c.cluster) (32 ∷ (decimal c.bytes ++ (10 ∷ lines))) rest, append_assoc (decimal c.bytes) (10 ∷ lines) rest)
-    (skips number (codes " ") after_number (decimal c.cluster ++ (32 ∷ tail)) tail c.cluster n
-    ∙ skips number (codes "\n") (after_bytes c.cluster) tail (lines ++ rest) c.bytes b
+    (skips reader.decimal (codes " ") after_number (decimal c.cluster ++ (32 ∷ tail)) tail c.cluster n
+    ∙ skips reader.decimal (codes "\n") (after_bytes c.cluster) tail (lines ++ rest) c.bytes b
     ∙ maps entries (line_of c.cluster c.bytes) (lines ++ rest) rest c.entries (entries_again c.entries rest h.entries e))
 
 cluster_reads : Reads FitsLine cluster_text NoEntry cluster

@@ -1,102 +1,27 @@
--- The text of a manifest, read from its front.
---
--- A reader gives what it reads and the bytes that follow, or None where the text does not begin so. What was read is a
--- manifest if it passes the tests of its form, which stand below the readers.
-use Rattle.std.specs.Prelude.{◌≡◌, ℕ, zero, suc, ◌+◌, ◌-◌, ◌*◌, ◌^◌, Bool, true, false, not, ◌&&◌, ◌||◌, nat_le, nat_lt, nat_eq, ◌==◌, if◌then◌else◌, length, List, [], ◌∷◌, ◌++◌, Option, Some, None, Result, Ok, Err, codes, take, drop}
-use Rattle.std.specs.List.{prefix_len, list_all}
+-- The text of a manifest, read from its front. What was read is a manifest if it passes the tests of its form, which stand
+-- below the readers.
+use Rattle.std.specs.Prelude.{ℕ, zero, suc, ◌+◌, ◌^◌, Bool, true, not, ◌&&◌, nat_le, nat_lt, nat_eq, if◌then◌else◌, length, List, [], ◌∷◌, ◌++◌, Option, Some, None, codes}
+use Rattle.std.specs.List.{list_all}
+use Rattle.text_reader.specs.Reader.{Found, Reader, ◌>>=◌, ◌>>◌, pure, refuse, either, skip, ended, decimal}
 use Rattle.play.specs.declared.manifest.ClusterLine.{ClusterLine}
 use Rattle.play.specs.declared.manifest.Manifest.{Manifest}
-use Rattle.play.specs.declared.manifest.cursor.Refusal.{Refusal}
-use Rattle.play.specs.declared.manifest.cursor.Refusal.TheVariants.{NotOfForm, OutOfMemory}
 use Rattle.play.specs.Manifest.{cluster_numbers, all_numbers}
 
--- ---- readers
-
-abbrev pub Found : Type 0 → Type 0
-Found A = Option (A × List ℕ)
-
-abbrev pub Reader : Type 0 → Type 0
-Reader A = List ℕ → Found A
-
-abbrev pub and_then : {A B : Type 0} → Found A → (A → Reader B) → Found B
-and_then (Some p) f = f p.0 p.1
-and_then None f = None
-
-infixl 10 ◌>>=◌
-abbrev pub ◌>>=◌ : {A B : Type 0} → Reader A → (A → Reader B) → Reader B
-p >>= f = λ bs. and_then (p bs) f
-
-infixl 10 ◌>>◌
-abbrev pub ◌>>◌ : {A B : Type 0} → Reader A → Reader B → Reader B
-p >> q = p >>= (λ _. q)
-
-abbrev pub pure : {A : Type 0} → A → Reader A
-pure a = λ bs. Some (a, bs)
-
-abbrev pub refuse : {A : Type 0} → Reader A
-refuse = λ bs. None
-
--- goes on after what `test` reads, or else in another way from where it began
-abbrev pub chosen : {A : Type 0} → Found (Unit {0}) → Reader A → Found A → Found A
-chosen (Some p) there other = there p.1
-chosen None there other = other
-
-abbrev pub either : {A : Type 0} → Reader (Unit {0}) → Reader A → Reader A → Reader A
-either test there other = λ bs. chosen (test bs) there (other bs)
-
--- these bytes
-unfoldable pub skip : List ℕ → Reader (Unit {0})
-skip [] bs = Some (tt, bs)
-skip (c ∷ cs) [] = None
-skip (c ∷ cs) (b ∷ bs) = if b == c then skip cs bs else None
-
--- the end of the text
-unfoldable pub ended : Reader (Unit {0})
-ended [] = Some (tt, [])
-ended (b ∷ bs) = None
+-- ---- lists
 
 -- what `read` reads behind `front`, again and again while `front` comes, after those found; in fewer than so many turns
 unfoldable pub each : {A : Type 0} → List ℕ → Reader A → ℕ → List A → Reader (List A)
 each front read zero found = refuse
 each front read (suc n) found = either (skip front) (read >>= (λ x. each front read n (found ++ x ∷ []))) (pure found)
 
--- ---- numbers
-
-abbrev pub is_digit : ℕ → Bool
-is_digit c = nat_le 48 c && nat_le c 57
-
--- the longest front of bytes that pass
-unfoldable pub run : (ℕ → Bool) → Reader (List ℕ)
-run test bs = Some (take (prefix_len test bs) bs, drop (prefix_len test bs) bs)
-
--- the number of digits that follow n
-abbrev pub value_after : ℕ → List ℕ → ℕ
-value_after n [] = n
-value_after n (c ∷ cs) = value_after (10 * n + (c - 48)) cs
-
-abbrev pub is_numeral : List ℕ → Bool
-is_numeral [] = false
-is_numeral (d ∷ ds) = (not (d == 48) || length ds == 0) && nat_lt (value_after 0 (d ∷ ds)) (2 ^ 32)
-
--- a number by its digits: no digit, a zero in front of others and a number that is too great are refused
-unfoldable pub number_of : List ℕ → Option ℕ
-number_of ds = if is_numeral ds then Some (value_after 0 ds) else None
-
-abbrev pub numbered : Option ℕ → Reader ℕ
-numbered (Some k) = pure k
-numbered None = refuse
-
-unfoldable pub number : Reader ℕ
-number = run is_digit >>= (λ ds. numbered (number_of ds))
-
 -- ---- the lines
 
 unfoldable pub numbers_after : List ℕ → Reader (List ℕ)
-numbers_after found = λ bs. each (codes ",") number (length bs + 1) found bs
+numbers_after found = λ bs. each (codes ",") decimal (length bs + 1) found bs
 
 abbrev pub some_numbers : Reader (List ℕ)
 some_numbers = do
-  first ← number
+  first ← decimal
   numbers_after (first ∷ [])
 
 -- numbers joined by commas, or `-`
@@ -106,7 +31,7 @@ numbers = either (skip (codes "-")) (pure []) some_numbers
 -- an entry's line, behind its first word
 unfoldable pub entry : Reader ℕ
 entry = do
-  k ← number
+  k ← decimal
   skip (codes " -\n")
   pure k
 
@@ -116,12 +41,12 @@ entries = λ bs. each (codes "entry ") entry (length bs + 1) [] bs
 -- a cluster's lines, behind the first word
 unfoldable pub cluster : Reader ClusterLine
 cluster = do
-  number' ← number
+  number ← decimal
   skip (codes " ")
-  bytes ← number
+  bytes ← decimal
   skip (codes "\n")
   ks ← entries
-  pure (record { cluster = number'; bytes = bytes; entries = ks })
+  pure (record { cluster = number; bytes = bytes; entries = ks })
 
 unfoldable pub clusters : Reader (List ClusterLine)
 clusters = λ bs. each (codes "cluster ") cluster (length bs + 1) [] bs
@@ -129,7 +54,7 @@ clusters = λ bs. each (codes "cluster ") cluster (length bs + 1) [] bs
 unfoldable pub manifest : Reader Manifest
 manifest = do
   skip (codes "doloto site 1\nform 1\nscript 1 ")
-  bytes ← number
+  bytes ← decimal
   skip (codes " ")
   plain ← numbers
   skip (codes "\n")
@@ -175,16 +100,3 @@ of_form None = None
 -- the manifest that is written by these bytes, if there is one
 unfoldable pub read_manifest : List ℕ → Option Manifest
 read_manifest bytes = of_form (manifest bytes)
-
--- ---- what the functions that read ensure
-
--- what was found and the bytes that are left, unless memory fails
-abbrev pub Gives : {A : Type 0} → Found A → Result A Refusal → List ℕ → Type 0
-Gives found (Ok a) rest = found ≡ Some (a, rest)
-Gives found (Err NotOfForm) rest = found ≡ None
-Gives found (Err OutOfMemory) rest = Unit {0}
-
--- whether it was found; what is left stays where it was not
-abbrev pub Eats : Found (Unit {0}) → Bool → List ℕ → List ℕ → Type 0
-Eats found true old new = found ≡ Some (tt, new)
-Eats found false old new = (found ≡ None) × (new ≡ old)

@@ -3,13 +3,12 @@ ghost use Rattle.std.specs.Option.{IfSome};
 ghost use Rattle.play.specs.Manifest.{IsManifest, manifest_text};
 ghost use Rattle.play.specs.ManifestReader as reader;
 
-mod cursor;
 mod form;
 mod read;
 
-use crate::manifest::cursor::{Cursor, Refusal};
 use sqlite_items::Items;
 use std::alloc::{AllocError, Global};
+use text_reader::{Cursor, Refusal};
 
 /// Numbers of functions.
 pub type Numbers = Items<u32>;

@@ -7,10 +7,10 @@ ghost use Rattle.js_parser.specs.declared.first.FirstEntry as entry;
 ghost use Rattle.js_parser.specs.First.{IsItem, IsEntry, script_text, cluster_text, IsTextOf};
 ghost use Rattle.js_parser.specs.Reader.{read_script, read_cluster};
 
-use crate::first::cursor::{Cursor, Refusal};
 use crate::first::{FirstEntries, FirstScript, read, tree};
 use js_tree::Script;
 use std::alloc::{AllocError, Global};
+use text_reader::{Cursor, Refusal};
 
 #[tactic(auto, unfolding(crate::specs::Reader::read_script))]
 fn script_of(alloc: Global, text: &[u8]) -> Result<Option<FirstScript>, AllocError>
@@ -19,7 +19,7 @@ fn script_of(alloc: Global, text: &[u8]) -> Result<Option<FirstScript>, AllocErr
     let mut left = Cursor::new(text);
     match read::script(alloc, &mut left) {
         Ok(script) => Ok(Some(script)),
-        Err(Refusal::NotOfGrammar) => Ok(None),
+        Err(Refusal::NotOfForm) => Ok(None),
         Err(Refusal::OutOfMemory) => Err(AllocError),
     }
 }
@@ -31,7 +31,7 @@ fn entries_of(alloc: Global, text: &[u8]) -> Result<Option<FirstEntries>, AllocE
     let mut left = Cursor::new(text);
     match read::entries(alloc, &mut left) {
         Ok(entries) => Ok(Some(entries)),
-        Err(Refusal::NotOfGrammar) => Ok(None),
+        Err(Refusal::NotOfForm) => Ok(None),
         Err(Refusal::OutOfMemory) => Err(AllocError),
     }
 }

@@ -1,25 +1,26 @@
 ghost use Rattle.std.specs.Prelude.{◌≡◌};
 ghost use Rattle.js_parser.specs.Reader as reader;
-ghost use Rattle.js_parser.specs.Gives.{Gives};
+ghost use Rattle.text_reader.specs.Gives.{Gives};
 
-use crate::first::cursor::{Cursor, Refusal};
+use crate::first::bytes::{characters, letter, number};
 use crate::first::{
     FirstBody, FirstEntries, FirstEntry, FirstFunction, FirstItem, FirstItems, FirstScript,
     FirstStatement, FirstStatements,
 };
 use sqlite_items::Items;
 use std::alloc::Global;
+use text_reader::{Cursor, Refusal};
 
 #[tactic(auto, unfolding(crate::specs::Reader::statement))]
 fn statement(alloc: Global, text: &mut Cursor<'_>) -> Result<FirstStatement, Refusal>
     ensures { Gives (reader.statement text.old) result text.new }
 {
     if text.eat(b"host.out(\"") {
-        let characters = text.characters(alloc)?;
+        let characters = characters(alloc, text)?;
         text.skip(b"\");")?;
         return Ok(FirstStatement::Out(characters));
     }
-    let name = text.letter()?;
+    let name = letter(text)?;
     text.skip(b"();")?;
     Ok(FirstStatement::Call(name))
 }
@@ -37,7 +38,7 @@ fn statements(alloc: Global, text: &mut Cursor<'_>) -> Result<FirstStatements, R
         }
         statements.push(statement(alloc, text)?)?;
     }
-    Err(Refusal::NotOfGrammar)
+    Err(Refusal::NotOfForm)
 }
 
 /// A body, and the `}` after it.
@@ -46,7 +47,7 @@ fn body(alloc: Global, text: &mut Cursor<'_>) -> Result<FirstBody, Refusal>
     ensures { Gives (reader.body text.old) result text.new }
 {
     if text.eat(b"return eval($dl_get(") {
-        let entry = text.number()?;
+        let entry = number(text)?;
         text.skip(b")).apply(this,arguments);}")?;
         return Ok(FirstBody::Stub(entry));
     }
@@ -58,7 +59,7 @@ fn body(alloc: Global, text: &mut Cursor<'_>) -> Result<FirstBody, Refusal>
 fn function(alloc: Global, text: &mut Cursor<'_>) -> Result<FirstFunction, Refusal>
     ensures { Gives (reader.function text.old) result text.new }
 {
-    let name = text.letter()?;
+    let name = letter(text)?;
     text.skip(b"(){")?;
     let body = body(alloc, text)?;
     Ok(FirstFunction { name, body })
@@ -89,7 +90,7 @@ fn items(alloc: Global, text: &mut Cursor<'_>) -> Result<FirstItems, Refusal>
         }
         items.push(item(alloc, text)?)?;
     }
-    Err(Refusal::NotOfGrammar)
+    Err(Refusal::NotOfForm)
 }
 
 #[tactic(auto, unfolding(crate::specs::Reader::script))]
@@ -100,7 +101,7 @@ pub fn script(alloc: Global, text: &mut Cursor<'_>) -> Result<FirstScript, Refus
     if text.is_at_end() {
         Ok(FirstScript { items })
     } else {
-        Err(Refusal::NotOfGrammar)
+        Err(Refusal::NotOfForm)
     }
 }
 
@@ -108,7 +109,7 @@ pub fn script(alloc: Global, text: &mut Cursor<'_>) -> Result<FirstScript, Refus
 fn entry(alloc: Global, text: &mut Cursor<'_>) -> Result<FirstEntry, Refusal>
     ensures { Gives (reader.entry text.old) result text.new }
 {
-    let number = text.number()?;
+    let number = number(text)?;
     text.skip(b" (function(){")?;
     let body = statements(alloc, text)?;
     text.skip(b")\n")?;
@@ -128,5 +129,5 @@ pub fn entries(alloc: Global, text: &mut Cursor<'_>) -> Result<FirstEntries, Ref
         }
         entries.push(entry(alloc, text)?)?;
     }
-    Err(Refusal::NotOfGrammar)
+    Err(Refusal::NotOfForm)
 }

@@ -1,11 +1,11 @@
 ghost use Rattle.std.specs.Prelude.{◌≡◌};
 ghost use Rattle.play.specs.ManifestReader as reader;
-ghost use Rattle.play.specs.ManifestReader.{Gives};
+ghost use Rattle.text_reader.specs.Gives.{Gives};
 
-use crate::manifest::cursor::{Cursor, Refusal};
 use crate::manifest::{ClusterLine, ClusterLines, Manifest, Numbers};
 use sqlite_items::Items;
 use std::alloc::Global;
+use text_reader::{Cursor, Refusal};
 
 /// The numbers that follow behind commas.
 #[tactic(auto, unfolding(crate::specs::ManifestReader::numbers_after, crate::specs::ManifestReader::each))]
@@ -17,7 +17,7 @@ fn numbers_after(mut numbers: Numbers, text: &mut Cursor<'_>) -> Result<Numbers,
         if !text.eat(b",") {
             return Ok(numbers);
         }
-        numbers.push(text.number()?)?;
+        numbers.push(text.decimal()?)?;
     }
     Err(Refusal::NotOfForm)
 }
@@ -31,7 +31,7 @@ fn numbers(alloc: Global, text: &mut Cursor<'_>) -> Result<Numbers, Refusal>
     if text.eat(b"-") {
         return Ok(numbers);
     }
-    numbers.push(text.number()?)?;
+    numbers.push(text.decimal()?)?;
     numbers_after(numbers, text)
 }
 
@@ -40,7 +40,7 @@ fn numbers(alloc: Global, text: &mut Cursor<'_>) -> Result<Numbers, Refusal>
 fn entry(text: &mut Cursor<'_>) -> Result<u32, Refusal>
     ensures { Gives (reader.entry text.old) result text.new }
 {
-    let number = text.number()?;
+    let number = text.decimal()?;
     text.skip(b" -\n")?;
     Ok(number)
 }
@@ -65,9 +65,9 @@ fn entries(alloc: Global, text: &mut Cursor<'_>) -> Result<Numbers, Refusal>
 fn cluster(alloc: Global, text: &mut Cursor<'_>) -> Result<ClusterLine, Refusal>
     ensures { Gives (reader.cluster text.old) result text.new }
 {
-    let cluster = text.number()?;
+    let cluster = text.decimal()?;
     text.skip(b" ")?;
-    let bytes = text.number()?;
+    let bytes = text.decimal()?;
     text.skip(b"\n")?;
     let entries = entries(alloc, text)?;
     Ok(ClusterLine {
@@ -98,7 +98,7 @@ pub fn manifest(alloc: Global, text: &mut Cursor<'_>) -> Result<Manifest, Refusa
     ensures { Gives (reader.manifest text.old) result text.new }
 {
     text.skip(b"doloto site 1\nform 1\nscript 1 ")?;
-    let script_bytes = text.number()?;
+    let script_bytes = text.decimal()?;
     text.skip(b" ")?;
     let plain = numbers(alloc, text)?;
     text.skip(b"\n")?;

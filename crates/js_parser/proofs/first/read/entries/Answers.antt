@@ -1,7 +1,8 @@
 use Rattle.std.proofs.Common.{rules, arith}
 use Rattle.std.proofs.lemmas.Grind.{common_steps}
-use Rattle.js_parser.specs.Reader.{ended, entry, entries}
-use Rattle.js_parser.proofs.Turns.{many_turn, many_done}
+use Rattle.text_reader.specs.Reader.{ended}
+use Rattle.js_parser.specs.Reader.{entry, entries}
+use Rattle.js_parser.proofs.Lists.{many_turn, many_done}
 use Rattle.js_parser.proofs.first.read.entries.Goals as goal
 
 pub returns-then-is_at_end : goal.returns-then-is_at_end

@@ -1,5 +1,6 @@
 use Rattle.std.proofs.Common.{◌≡◌, ◌+◌, ◌-◌, length, []}
-use Rattle.js_parser.specs.Reader.{many, ended, entry}
+use Rattle.text_reader.specs.Reader.{ended}
+use Rattle.js_parser.specs.Reader.{many, entry}
 use Rattle.js_parser.proofs.first.read.entries.Given as goal
 
 -- what is left goes on as the whole does

@@ -1,7 +1,8 @@
 use Rattle.std.proofs.Common.{◌∷◌, [], rules, arith}
 use Rattle.std.proofs.lemmas.Grind.{common_steps}
-use Rattle.js_parser.specs.Reader.{skip, item, items}
-use Rattle.js_parser.proofs.Turns.{many_turn, many_done}
+use Rattle.text_reader.specs.Reader.{skip}
+use Rattle.js_parser.specs.Reader.{item, items}
+use Rattle.js_parser.proofs.Lists.{many_turn, many_done}
 use Rattle.js_parser.proofs.first.read.items.Goals as goal
 
 pub returns-then-eat : goal.returns-then-eat

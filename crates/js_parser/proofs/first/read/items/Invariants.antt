@@ -1,5 +1,6 @@
 use Rattle.std.proofs.Common.{◌≡◌, ◌+◌, ◌-◌, length, [], ◌∷◌}
-use Rattle.js_parser.specs.Reader.{many, skip, item}
+use Rattle.text_reader.specs.Reader.{skip}
+use Rattle.js_parser.specs.Reader.{many, item}
 use Rattle.js_parser.proofs.first.read.items.Given as goal
 
 -- what is left goes on as the whole does

@@ -1,6 +1,7 @@
 use Rattle.std.proofs.Common.{◌≡◌, ◌+◌, ◌-◌, length, []}
 use Rattle.std.specs.Prelude.{codes}
-use Rattle.js_parser.specs.Reader.{many, skip, statement}
+use Rattle.text_reader.specs.Reader.{skip}
+use Rattle.js_parser.specs.Reader.{many, statement}
 use Rattle.js_parser.proofs.first.read.statements.Given as goal
 
 -- what is left goes on as the whole does
