@@ -13,7 +13,8 @@ use Rattle.js_parser.specs.First.{IsFunctionNumber}
 use Rattle.play.specs.declared.manifest.ClusterLine.{ClusterLine}
 use Rattle.play.specs.declared.manifest.Manifest.{Manifest}
 use Rattle.play.specs.Manifest.{Rises, IsClusterLine, IsManifest, cluster_numbers, all_numbers}
-use Rattle.play.specs.ManifestReader.{is_function_number, rises, are_entries, is_cluster_line, is_distinct, has_lines_of_form, is_manifest}
+use Rattle.js_parser.specs.Reader.{is_function_number}
+use Rattle.play.specs.ManifestReader.{rises, are_entries, is_cluster_line, is_distinct, has_lines_of_form, is_manifest}
 
 -- ---- numbers
 

@@ -2,6 +2,7 @@
 -- below the readers.
 use Rattle.std.specs.Prelude.{ℕ, zero, suc, ◌+◌, ◌^◌, Bool, true, not, ◌&&◌, nat_le, nat_lt, nat_eq, if◌then◌else◌, length, List, [], ◌∷◌, ◌++◌, Option, Some, None, codes}
 use Rattle.std.specs.List.{list_all}
+use Rattle.js_parser.specs.Reader.{is_function_number}
 use Rattle.text_reader.specs.Reader.{Found, Reader, ◌>>=◌, ◌>>◌, pure, refuse, either, skip, ended, decimal}
 use Rattle.play.specs.declared.manifest.ClusterLine.{ClusterLine}
 use Rattle.play.specs.declared.manifest.Manifest.{Manifest}
@@ -64,9 +65,6 @@ manifest = do
   pure (record { script_bytes = bytes; plain = plain; clusters = cs })
 
 -- ---- the tests of the form
-
-abbrev pub is_function_number : ℕ → Bool
-is_function_number k = nat_le 1 k && nat_le k 65535
 
 abbrev pub rises : ℕ → List ℕ → Bool
 rises before [] = true

@@ -2,6 +2,7 @@ ghost use Rattle.std.specs.Prelude.{◌≡◌, ◌++◌, All, IfOk};
 ghost use Rattle.std.specs.List.{flat_map, list_all};
 ghost use Rattle.js_parser.specs.First.{IsFunctionNumber};
 ghost use Rattle.play.specs.Manifest.{all_numbers, cluster_numbers};
+ghost use Rattle.js_parser.specs.Reader.{is_function_number};
 ghost use Rattle.play.specs.ManifestReader as reader;
 
 use crate::manifest::{ClusterLine, Manifest};
@@ -17,13 +18,13 @@ const LAST_CLUSTER_BYTES: u32 = 1 << 31;
 const LAST_NUMBER: u32 = 65535;
 
 fn is_function_number(number: u32) -> bool
-    ensures { result ≡ reader.is_function_number number }
+    ensures { result ≡ is_function_number number }
 {
     1 <= number && number <= LAST_NUMBER
 }
 
 fn are_function_numbers(numbers: &[u32]) -> bool
-    ensures { result ≡ list_all reader.is_function_number numbers.now }
+    ensures { result ≡ list_all is_function_number numbers.now }
 {
     numbers.iter().all(|number| is_function_number(*number))
 }
