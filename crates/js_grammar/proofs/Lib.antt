@@ -10,3 +10,7 @@ pub mod Keys
 pub mod Breaking
 pub mod Counting
 pub mod Tokens
+pub mod Reader
+pub mod Beginning
+pub mod Stages
+pub mod Completing

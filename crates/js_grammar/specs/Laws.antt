@@ -135,3 +135,7 @@ BracketsAreClosed = (form : Form) (c : Context) (u : Symbols) (next : Symbol) (s
 -- An expression that is one token has one tree.
 abbrev pub OneTreeOfAToken : Type 0
 OneTreeOfAToken = (form : Form) (i j : Bool) (l o : ℕ) (s : Symbol) (x y : Expr) → Expression form i l (s ∷ []) x → Expression form j o (s ∷ []) y → x ≡ y
+
+-- At most one tree is derived from a list of tokens.
+abbrev pub OneTree : Type 0
+OneTree = (form : Form) (tokens : Symbols) (tree other : Script) → Derives form tokens tree → Derives form tokens other → tree ≡ other

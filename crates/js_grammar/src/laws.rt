@@ -81,3 +81,8 @@ pub fn brackets_are_closed()
 pub fn one_tree_of_a_token()
     ensures { law.OneTreeOfAToken }
 {}
+
+/// At most one tree is derived from a list of tokens.
+pub fn one_tree()
+    ensures { law.OneTree }
+{}
