@@ -14,3 +14,4 @@ pub mod Reader
 pub mod Beginning
 pub mod Stages
 pub mod Completing
+pub mod Accepting

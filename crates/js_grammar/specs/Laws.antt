@@ -15,8 +15,9 @@ use Rattle.js_grammar.specs.Ends.{ends_changed}
 use Rattle.js_grammar.specs.Grammar.{Formals, Expression, ArgumentList, DeclaratorList, Statement, SourceElement}
 use Rattle.js_lexer.specs.declared.token.Token.{Token}
 use Rattle.js_tree.specs.Numbering.{in_stmts}
-use Rattle.js_grammar.specs.Accepted.{Derives, IsUnlimited, functions_in, opened}
-use Rattle.js_grammar.specs.Fault.{Begins, Breaks}
+use Rattle.js_grammar.specs.Accepted.{Accepted, Derives, IsUnlimited, functions_in, opened}
+use Rattle.js_grammar.specs.Fault.{Begins, Breaks, Fault, Answer}
+use Rattle.js_grammar.specs.declared.form.Limits.{Limits}
 use Rattle.js_grammar.specs.WellPlaced.{are_placed}
 
 -- an expression of a level is one of each lower level
@@ -139,3 +140,7 @@ OneTreeOfAToken = (form : Form) (i j : Bool) (l o : ℕ) (s : Symbol) (x y : Exp
 -- At most one tree is derived from a list of tokens.
 abbrev pub OneTree : Type 0
 OneTree = (form : Form) (tokens : Symbols) (tree other : Script) → Derives form tokens tree → Derives form tokens other → tree ≡ other
+
+-- Nothing is told of tokens that are an accepted script.
+abbrev pub AcceptedHasNoFault : Type 0
+AcceptedHasNoFault = (form : Form) (limits : Limits) (tokens : List Token) (tree : Script) (told : Answer) → Accepted form limits (symbols tokens) tree → Fault form limits tokens told → ⊥

@@ -86,3 +86,8 @@ pub fn one_tree_of_a_token()
 pub fn one_tree()
     ensures { law.OneTree }
 {}
+
+/// Nothing is told of tokens that are an accepted script.
+pub fn accepted_has_no_fault()
+    ensures { law.AcceptedHasNoFault }
+{}
