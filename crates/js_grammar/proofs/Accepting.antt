@@ -1,6 +1,6 @@
 -- An accepted script has no fault.
-use Rattle.std.proofs.Common.{◌≡◌, ◌≢◌, ℕ, suc, ◌+◌, ◌-◌, ◌≤◌, Bool, List, [], ◌∷◌, ◌++◌, length, max, refl, ap, sym, ◌∙◌, subst, arith}
-use Rattle.std.proofs.lemmas.List.{append-nil, append_assoc}
+use Rattle.std.proofs.Common.{◌≡◌, ℕ, ◌≤◌, List, [], ◌∷◌, ◌++◌, length, max, refl, ap, sym, ◌∙◌, subst, arith}
+use Rattle.std.proofs.lemmas.List.{append_assoc}
 use Rattle.std.proofs.Math.Nat.{le-max_left, le-max_right, max-le, le_trans}
 use Rattle.js_lexer.specs.declared.token.Token.{Token}
 use Rattle.js_tree.specs.Tree.{Script, Stmt, Stmts}
@@ -9,12 +9,11 @@ use Rattle.js_grammar.specs.declared.form.Form.{Form}
 use Rattle.js_grammar.specs.declared.form.Limits.{Limits}
 use Rattle.js_grammar.specs.Symbols.{Symbol, Symbols, symbols, first, end}
 use Rattle.js_grammar.specs.Contexts.{Context}
-use Rattle.js_grammar.specs.Contexts as context
 use Rattle.js_grammar.specs.Grammar.{SourceElement, SourceElements}
 use Rattle.js_grammar.specs.Grammar as g
 use Rattle.js_grammar.specs.Depth.{depth, stmt_depth}
 use Rattle.js_grammar.specs.Nesting.{nesting, stmt_nesting}
-use Rattle.js_grammar.specs.Accepted.{Derives, Keeps, Accepted, IsOverAt, most_open, opened}
+use Rattle.js_grammar.specs.Accepted.{Derives, Accepted, IsOverAt, most_open, opened}
 use Rattle.js_grammar.specs.Fault.{Fault, Answer, breaking, over, spent}
 use Rattle.js_grammar.specs.Laws.{open_behind}
 use Rattle.js_grammar.proofs.Counting.{source}
@@ -35,7 +34,7 @@ joined : {form : Form} {c : Context} {u : Symbols} {middle : Symbol} {ss others 
 joined v next g.no_source h e = e
 joined {form = form} {c = c} {middle = middle} {others = others} w next (g.source_and {u = u} {v = v} {s = s} {ss = ss} d ds) h e =
     subst (λ t. SourceElements form c t next (Tree.MoreStmts s (and_then ss others))) (sym (append_assoc u v w))
-      (g.source_and (subst (λ n. SourceElement form c u n s) (ap (first v) h ∙ sym (first-join v w next)) d) (joined w next ds h e))
+    (g.source_and (subst (λ n. SourceElement form c u n s) (ap (first v) h ∙ sym (first-join v w next)) d) (joined w next ds h e))
 
 -- ---- limits of a whole and of its parts
 
@@ -68,9 +67,11 @@ open-behind n (s ∷ u) v = le_trans (open-behind (opened s.kind n) u v) (le-max
 kept : (form : Form) (limits : Limits) (tokens : Symbols) (tree : Script) (n : ℕ) → Accepted form limits tokens tree → IsOverAt form limits tokens n → ⊥
 kept form limits tokens tree n a o =
     let d : Derives form tokens (and_then o.trees (Tree.MoreStmts o.tree o.other_trees)) = record {
-          elements = o.before ++ (o.element ++ o.after); newline = o.newline;
-          whole = o.whole ∙ sym (append_assoc o.before (o.element ++ o.after) (end o.newline ∷ []) ∙ ap (λ t. o.before ++ t) (append_assoc o.element o.after (end o.newline ∷ [])));
-          derived = joined (o.element ++ o.after) (end o.newline) o.derives_before refl (g.source_and o.derives o.derives_after) } in
+      elements = o.before ++ (o.element ++ o.after);
+      newline = o.newline;
+      whole = o.whole ∙ sym (append_assoc o.before (o.element ++ o.after) (end o.newline ∷ []) ∙ ap (λ t. o.before ++ t) (append_assoc o.element o.after (end o.newline ∷ [])));
+      derived = joined (o.element ++ o.after) (end o.newline) o.derives_before refl (g.source_and o.derives o.derives_after);
+    } in
     let same = one_tree form tokens tree (and_then o.trees (Tree.MoreStmts o.tree o.other_trees)) a.unlimited.derives d in
     let deep = a.keeps.deep_enough in let nested = a.keeps.nested_enough in let open_most = a.keeps.open_enough in
     let deeper = depth-part o.trees o.other_trees o.tree in let nesteds = nesting-part o.trees o.other_trees o.tree in
@@ -82,7 +83,8 @@ kept form limits tokens tree n a o =
     o.breaks (record {
       deep_enough = max-le (le_trans deeper (subst (λ t. depth t ≤ limits.depth) same deep)) (omega arith);
       nested_enough = max-le (le_trans nesteds (subst (λ t. nesting t ≤ limits.nesting) same nested)) (omega arith);
-      open_enough = omega (arith, e, f, g, h, open_most) })
+      open_enough = omega (arith, e, f, g, h, open_most);
+    })
 
 pub no_fault : (form : Form) (limits : Limits) (tokens : List Token) (tree : Script) (told : Answer) → Accepted form limits (symbols tokens) tree → Fault form limits tokens told → ⊥
 no_fault form limits tokens tree told a (breaking used token b e) = not_broken form limits.functions tokens used token tree a.unlimited b

@@ -1,5 +1,5 @@
 -- Where expressions begin and end.
-use Rattle.std.proofs.Common.{◌≡◌, ◌≢◌, ℕ, ◌≤◌, Bool, true, false, not, ◌&&◌, List, [], ◌∷◌, ◌++◌, Option, Some, None, refl, ap, sym, ◌∙◌, subst, arith}
+use Rattle.std.proofs.Common.{◌≡◌, ℕ, ◌≤◌, Bool, true, false, not, ◌&&◌, List, [], ◌∷◌, ◌++◌, Option, Some, None, refl, ap, sym, ◌∙◌, subst, arith}
 use Rattle.std.proofs.lemmas.List.{append_assoc}
 use Rattle.js_lexer.specs.declared.mark.Mark.{Mark}
 use Rattle.js_lexer.specs.declared.mark.Mark.TheVariants as m
@@ -12,16 +12,14 @@ use Rattle.js_tree.specs.declared.tree.BinaryOp.{BinaryOp}
 use Rattle.js_tree.specs.declared.tree.BinaryOp.TheVariants as b
 use Rattle.js_tree.specs.declared.tree.PostfixOp.{PostfixOp}
 use Rattle.js_tree.specs.declared.tree.PostfixOp.TheVariants as q
-use Rattle.js_tree.specs.Tree.{Name, Expr, Exprs, Stmt, Stmts, VarItems, MaybeExpr}
+use Rattle.js_tree.specs.Tree.{Name, Expr, Exprs, Stmts}
 use Rattle.js_grammar.specs.declared.form.Form.{Form}
-use Rattle.js_grammar.specs.Symbols.{Symbol, Symbols, of_kind, word, mark, name, number, string}
+use Rattle.js_grammar.specs.Symbols.{Symbol, Symbols, mark, name}
 use Rattle.js_grammar.specs.Operators.{Operator, LogicalOr, LogicalAnd, Operation, level, sign, prefix_sign, postfix_sign, assignment}
-use Rattle.js_grammar.specs.Contexts.{Context}
 use Rattle.js_grammar.specs.Ends.{ends_from, ends_changed, changes}
 use Rattle.js_grammar.specs.Grammar.{Formals, Expression, NewCallee, Arguments, ArgumentList, FunctionRest, Statement, SourceElement}
 use Rattle.js_grammar.specs.Grammar as g
-use Rattle.js_grammar.proofs.Levels.{is_empty, more, some, expression-tokens}
-use Rattle.js_grammar.proofs.Reader.{prefix_of}
+use Rattle.js_grammar.proofs.Levels.{is_empty}
 
 -- ---- the last token
 

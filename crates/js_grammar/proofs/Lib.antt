@@ -15,3 +15,4 @@ pub mod Beginning
 pub mod Stages
 pub mod Completing
 pub mod Accepting
+pub mod Following

@@ -1,6 +1,5 @@
 -- What has a tree by the grammar is read by the machine: expressions.
-use Rattle.std.proofs.Common.{if◌then◌else◌, ◌≡◌, ◌≢◌, ℕ, suc, ◌+◌, ◌≤◌, ◌<◌, ◌⊎◌, inl, inr, nat_le, Bool, true, false, not, ◌&&◌, List, [], ◌∷◌, ◌++◌, Option, Some, None, refl, ap, sym, ◌∙◌, subst, arith, lit≤, lit<}
-use Rattle.std.proofs.lemmas.List.{append_assoc}
+use Rattle.std.proofs.Common.{if◌then◌else◌, ◌≡◌, ℕ, suc, ◌≤◌, ◌<◌, ◌⊎◌, inl, inr, nat_le, Bool, true, false, ◌&&◌, [], ◌∷◌, ◌++◌, Option, Some, None, refl, ap, sym, ◌∙◌, subst, arith, lit≤}
 use Rattle.std.proofs.lemmas.Bool.{lt-leb, le-leb}
 use Rattle.js_lexer.specs.declared.mark.Mark.{Mark}
 use Rattle.js_lexer.specs.declared.mark.Mark.TheVariants as m
@@ -11,16 +10,14 @@ use Rattle.js_tree.specs.declared.tree.BinaryOp.{BinaryOp}
 use Rattle.js_tree.specs.declared.tree.BinaryOp.TheVariants as b
 use Rattle.js_tree.specs.declared.tree.PrefixOp.{PrefixOp}
 use Rattle.js_tree.specs.declared.tree.PrefixOp.TheVariants as p
-use Rattle.js_tree.specs.declared.tree.PostfixOp.{PostfixOp}
-use Rattle.js_tree.specs.declared.tree.PostfixOp.TheVariants as q
 use Rattle.js_tree.specs.Tree.{Expr}
 use Rattle.js_tree.specs.Tree
 use Rattle.js_grammar.specs.declared.form.Form.{Form}
-use Rattle.js_grammar.specs.Symbols.{Symbol, Symbols, of_kind, mark, first, end}
-use Rattle.js_grammar.specs.Operators.{Operator, LogicalOr, LogicalAnd, Operation, joined, sign, level, may_operate, prefix_sign, postfix_sign, assignment}
+use Rattle.js_grammar.specs.Symbols.{Symbol, Symbols, first, end}
+use Rattle.js_grammar.specs.Operators.{Operator, LogicalOr, LogicalAnd, Operation, joined, sign, level, may_operate, prefix_sign, assignment}
 use Rattle.js_grammar.specs.Ends.{ends_changed, kind_reach}
 use Rattle.js_grammar.proofs.Beginning.{Starts, begins_operand}
-use Rattle.js_grammar.proofs.Reader.{State, done, stuck, comma, comma_tail, assign, choice, climb, tail, unary, postfix, operand, links, To, comma_by, assign_to, choice_by, tail_by, unary_by, postfix_by, links_by, new_by, after_new, operator_of, prefix_of, step, Goes, here, then_on, onwards, stepped}
+use Rattle.js_grammar.proofs.Reader.{State, comma, comma_tail, assign, choice, climb, tail, unary, postfix, operand, links, To, comma_by, assign_to, choice_by, tail_by, unary_by, postfix_by, links_by, new_by, after_new, operator_of, prefix_of, Goes, here, then_on, onwards, stepped}
 
 -- ---- the token that follows
 
@@ -333,42 +330,72 @@ unary-climb form i c u x h le least next r t a reaches after =
 climb-choice : (form : Form) (i : Bool) (u : Symbols) (x : Expr) → Climb form i 4 u x → Choice form i u x
 climb-choice form i u x h next r reaches =
     then_on (h 4 (λ x r. choice i x next r) r (next x r) (lit≤ tt) (omega arith)
-      (onwards (tail-stop i (ends_changed u) 4 x (λ x r. choice i x next r) r (omega arith)) (choice-stop i (ends_changed u) x next r reaches)))
+    (onwards (tail-stop i (ends_changed u) 4 x (λ x r. choice i x next r) r (omega arith)) (choice-stop i (ends_changed u) x next r reaches)))
 
 choice-commas : (form : Form) (i : Bool) (u : Symbols) (x : Expr) → Choice form i u x → Commas form i u x
 choice-commas form i u x h next r t reaches after = then_on (onwards (h (λ x r. comma_tail i x next r) r reaches) after)
 
 pub by-commas : (form : Form) (i : Bool) (l : ℕ) (u : Symbols) (x : Expr) → l ≤ 1 → Commas form i u x → Known form i l u x
-by-commas form i l u x le h = record { linked = λ a. absurd (omega arith); operand_is = λ a. absurd (omega arith); unary_is = λ a. absurd (omega arith); climbs = λ c a o e. absurd (omega arith);
-  chosen = λ a. absurd (omega arith); commas = λ a. h }
+by-commas form i l u x le h = record {
+  linked = λ a. absurd (omega arith);
+  operand_is = λ a. absurd (omega arith);
+  unary_is = λ a. absurd (omega arith);
+  climbs = λ c a o e. absurd (omega arith);
+  chosen = λ a. absurd (omega arith);
+  commas = λ a. h;
+}
 
 pub by-choice : (form : Form) (i : Bool) (l : ℕ) (u : Symbols) (x : Expr) → l ≤ 3 → Choice form i u x → Known form i l u x
-by-choice form i l u x le h = record { linked = λ a. absurd (omega arith); operand_is = λ a. absurd (omega arith); unary_is = λ a. absurd (omega arith); climbs = λ c a o e. absurd (omega arith);
-  chosen = λ a. h; commas = λ a. choice-commas form i u x h }
+by-choice form i l u x le h = record {
+  linked = λ a. absurd (omega arith);
+  operand_is = λ a. absurd (omega arith);
+  unary_is = λ a. absurd (omega arith);
+  climbs = λ c a o e. absurd (omega arith);
+  chosen = λ a. h;
+  commas = λ a. choice-commas form i u x h;
+}
 
 pub by-climb : (form : Form) (i : Bool) (l : ℕ) (u : Symbols) (x : Expr) (n : ℕ) → l ≤ n → 4 ≤ n → n ≤ 13 → ((c : ℕ) → 4 ≤ c → c ≤ n → Climb form i c u x) → Known form i l u x
 by-climb form i l u x n le high low h = let d : Choice form i u x = climb-choice form i u x (h 4 (lit≤ tt) high) in
-    record { linked = λ a. absurd (omega arith); operand_is = λ a. absurd (omega arith); unary_is = λ a. absurd (omega arith); climbs = λ c a o e. h c a (omega arith);
-      chosen = λ a. d; commas = λ a. choice-commas form i u x d }
+    record {
+      linked = λ a. absurd (omega arith);
+      operand_is = λ a. absurd (omega arith);
+      unary_is = λ a. absurd (omega arith);
+      climbs = λ c a o e. h c a (omega arith);
+      chosen = λ a. d;
+      commas = λ a. choice-commas form i u x d;
+    }
 
 pub by-unary : (form : Form) (i : Bool) (l : ℕ) (u : Symbols) (x : Expr) → l ≤ 15 → Unary form u x → Known form i l u x
 by-unary form i l u x le h = let d : Choice form i u x = climb-choice form i u x (unary-climb form i 4 u x h (lit≤ tt)) in
-    record { linked = λ a. absurd (omega arith); operand_is = λ a. absurd (omega arith); unary_is = λ a. h; climbs = λ c a o e. unary-climb form i c u x h o;
-      chosen = λ a. d; commas = λ a. choice-commas form i u x d }
+    record {
+      linked = λ a. absurd (omega arith);
+      operand_is = λ a. absurd (omega arith);
+      unary_is = λ a. h;
+      climbs = λ c a o e. unary-climb form i c u x h o;
+      chosen = λ a. d;
+      commas = λ a. choice-commas form i u x d;
+    }
 
 -- an operand, which does not end with `++` or `--`
 operand-unary : (form : Form) (u : Symbols) (x : Expr) → Starts begins_operand u → ends_changed u ≡ false → Operand form u x → Unary form u x
 operand-unary form u x s away h next r reaches =
     subst (λ v. Goes form (unary next (v ++ r)) (next x r)) (sym s.are)
-      (stepped (ap (λ o. unary_by o next s.head (s.others ++ r)) (no-prefix s.head.kind s.passes))
-        (onwards (subst (λ v. Goes form (operand true (λ x r. postfix x next r) (v ++ r)) (postfix x next r)) s.are (h (λ x r. postfix x next r) r (omega arith)))
-          (postfix-stop x next r (let e = ap (λ c. kind_reach c (front r).newline (front r).kind) away in omega (arith, e)))))
+    (stepped (ap (λ o. unary_by o next s.head (s.others ++ r)) (no-prefix s.head.kind s.passes))
+    (onwards (subst (λ v. Goes form (operand true (λ x r. postfix x next r) (v ++ r)) (postfix x next r)) s.are (h (λ x r. postfix x next r) r (omega arith)))
+    (postfix-stop x next r (let e = ap (λ c. kind_reach c (front r).newline (front r).kind) away in omega (arith, e)))))
 
 pub by-operand : (form : Form) (i : Bool) (l : ℕ) (u : Symbols) (x : Expr) → l ≤ 16 → Starts begins_operand u → ends_changed u ≡ false → Operand form u x → Known form i l u x
 by-operand form i l u x le s away h = let o : Unary form u x = operand-unary form u x s away h in
     let d : Choice form i u x = climb-choice form i u x (unary-climb form i 4 u x o (lit≤ tt)) in
-    record { linked = λ a. absurd (omega arith); operand_is = λ a. h; unary_is = λ a. o; climbs = λ c a e f. unary-climb form i c u x o e;
-      chosen = λ a. d; commas = λ a. choice-commas form i u x d }
+    record {
+      linked = λ a. absurd (omega arith);
+      operand_is = λ a. h;
+      unary_is = λ a. o;
+      climbs = λ c a e f. unary-climb form i c u x o e;
+      chosen = λ a. d;
+      commas = λ a. choice-commas form i u x d;
+    }
 
 linked-operand : (form : Form) (l : ℕ) (u : Symbols) (x : Expr) → ends_changed u ≡ false → Linked form l u x → Operand form u x
 linked-operand form l u x away h next r reaches =
@@ -378,8 +405,14 @@ pub by-linked : (form : Form) (i : Bool) (l : ℕ) (u : Symbols) (x : Expr) → 
 by-linked form i l u x s away h = let p : Operand form u x = linked-operand form l u x away h in
     let o : Unary form u x = operand-unary form u x s away p in
     let d : Choice form i u x = climb-choice form i u x (unary-climb form i 4 u x o (lit≤ tt)) in
-    record { linked = λ a. h; operand_is = λ a. p; unary_is = λ a. o; climbs = λ c a e f. unary-climb form i c u x o e;
-      chosen = λ a. d; commas = λ a. choice-commas form i u x d }
+    record {
+      linked = λ a. h;
+      operand_is = λ a. p;
+      unary_is = λ a. o;
+      climbs = λ c a e f. unary-climb form i c u x o e;
+      chosen = λ a. d;
+      commas = λ a. choice-commas form i u x d;
+    }
 
 -- ---- whole expressions of a level
 
@@ -395,7 +428,7 @@ read-climb-by {i = i} {u = u} {x = x} n h (inl low) high next r reaches =
     h.climbs (suc n) (omega arith) low (omega arith) (suc n) next r (next x r) (omega arith) (omega arith) (tail-stop i (ends_changed u) (suc n) x next r reaches)
 read-climb-by {i = i} {u = u} {x = x} n h (inr top) high next r reaches =
     then_on (onwards (h.unary_is (omega (arith, top)) (λ x r. tail i (suc n) x next r) r (unflag i (ends_changed u) (front r).newline (front r).kind 14 (omega (arith, top)) (lit≤ tt)))
-      (tail-stop i (ends_changed u) (suc n) x next r reaches))
+    (tail-stop i (ends_changed u) (suc n) x next r reaches))
 
 low-or-top : (op : Operator) → (suc (level op) ≤ 13) ⊎ (level op ≡ 13)
 low-or-top LogicalOr = inl (lit≤ tt)
