@@ -9,6 +9,7 @@ ghost use Rattle.js_grammar.specs.Accepted.{Accepted, source_limits, written_lim
 ghost use Rattle.js_grammar.specs.Symbols.{symbols};
 ghost use Rattle.js_grammar.specs.declared.form.Construct.TheVariants as c;
 ghost use Rattle.js_grammar.specs.Fault.{Fault, Syntax, Refused, TooDeep, TooMany};
+ghost use Rattle.js_grammar.specs.PrintedText.{body_text, entry_text, func_text};
 ghost use Rattle.js_grammar.specs.Rows as rows;
 ghost use Rattle.js_grammar.specs.RefusedRows as refused;
 ghost use Rattle.js_grammar.specs.RefusedRows.{place};
@@ -66,4 +67,11 @@ pub fn told_tokens()
     ensures later_word_is { refused.told (k.Word w.Class) ≡ Syntax (place 1 1) }
     ensures other_name_is { refused.told (k.Name (codes "b")) ≡ Syntax (place 1 1) }
     ensures end_is { refused.told k.End ≡ Syntax (place 1 1) }
+{}
+
+/// What a function, its body and its entry are written as.
+pub fn written_parts()
+    ensures function_text { func_text rows.entry ≡ codes "function(){host.out(\"two\");}" }
+    ensures of_body { body_text rows.entry_body ≡ codes "host.out(\"two\");" }
+    ensures of_entry { entry_text rows.entry ≡ codes "(function(){host.out(\"two\");})" }
 {}
