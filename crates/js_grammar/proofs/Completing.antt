@@ -1,7 +1,8 @@
 -- What has a tree by the grammar is read by the machine: the whole grammar.
-use Rattle.std.proofs.Common.{◌≡◌, ℕ, ◌≤◌, ◌<◌, Bool, true, false, List, [], ◌∷◌, ◌++◌, Some, None, refl, ap, sym, ◌∙◌, subst, arith, lit≤, lit<}
+use Rattle.std.proofs.Common.{if◌then◌else◌, ◌≡◌, ℕ, ◌≤◌, ◌<◌, Bool, true, false, List, [], ◌∷◌, ◌++◌, Some, None, refl, ap, sym, ◌∙◌, subst, arith, lit≤, lit<}
 use Rattle.std.proofs.lemmas.List.{append_assoc}
 use Rattle.js_lexer.specs.declared.mark.Mark.TheVariants as m
+use Rattle.js_lexer.specs.declared.token.TokenKind.TheVariants as k
 use Rattle.js_lexer.specs.declared.word.Word.TheVariants as w
 use Rattle.js_tree.specs.Tree.{Name, Expr, Exprs, MaybeExpr, Elements, Pairs, Stmt, Stmts, VarItems, Cases, ForInit}
 use Rattle.js_tree.specs.Tree
@@ -17,7 +18,10 @@ use Rattle.js_grammar.proofs.Beginning.{Starts, one, begins, begins_operand, ope
 use Rattle.js_grammar.proofs.Beginning as start
 use Rattle.js_grammar.proofs.Reader.{State, done, stuck, comma, comma_tail, assign, choice, climb, tail, unary, postfix, operand, links, arguments, argument_list, elements, pairs, rest, formals, declarator, declarators, optional, statement, list, source, clauses, To, step, Goes, here, then_on, onwards, stepped}
 use Rattle.js_grammar.proofs.Reader.{one_end}
+use Rattle.js_grammar.specs.Fault.{Begins}
 use Rattle.js_grammar.proofs.Reader as mc
+use Rattle.js_grammar.proofs.Reader.{stuck}
+use Rattle.js_grammar.specs.Names.{get_name}
 use Rattle.js_grammar.specs.Accepted.{Derives}
 use Rattle.js_grammar.proofs.Stages.{front, reach_of, links-stop, tail-stop, new-stop, level-high, sign-reach, operates, prefixed, assigned, assigns-reach, no-prefix, Known, by-commas, by-choice, by-climb, by-unary, by-operand, by-linked, read-comma, read-assign, read-right, placed}
 use Rattle.js_grammar.proofs.Following.{same, from, not-eval, same-reach, same-reach-of, starting, elements-start, arguments-start, optional-start, post-reach, post-step, open_arguments, call-step, new-step, links-paren, function-step, formals-read, declared_in, list_in, list-same, list-none, bare-stop, declared-comma, declarators-stop, comma-declared, semicolon-declared, in-declared, more-items, declarator-list-tokens, ended-read, ends-follow, list-follow, may_follow, stops, closes, not-finally, list-start, source-start, list-stop, source-stop, stated-start, if-stop, finally-stop, header-start, return-start, jump-read, return-read, front-join, ends-colon, closer, statement-starts, list-may, source-may, clauses-stop, beginning, told, closes-stop, clauses-end}
@@ -49,7 +53,7 @@ mutual
   known : {form : Form} {i : Bool} {l : ℕ} {u : Symbols} {x : Expr} → Expression form i l u x → Known form i l u x
   known {form = form} {i = i} {l = l} (g.this a h) = by-linked form i l _ _ (one _ _ refl) refl (λ c next ts t up d. then_on d)
   known {form = form} {i = i} {l = l} (g.identifier {n = n} a h r) =
-      by-linked form i l _ _ (one _ _ refl) refl (λ c next ts t up d. stepped (ap (λ o. mc.name_by o n c next ts) (not-eval form n r)) d)
+      by-linked form i l _ _ (one _ _ refl) refl (λ c next ts t up d. stepped (ap (λ o. mc.name_by o form n c next ts) (not-eval form n r) ∙ ap (λ a. if a then links c (Tree.Ident n) next ts else stuck) r) d)
   known {form = form} {i = i} {l = l} (g.null a h) = by-linked form i l _ _ (one _ _ refl) refl (λ c next ts t up d. then_on d)
   known {form = form} {i = i} {l = l} (g.truth a h) = by-linked form i l _ _ (one _ _ refl) refl (λ c next ts t up d. then_on d)
   known {form = form} {i = i} {l = l} (g.falsehood a h) = by-linked form i l _ _ (one _ _ refl) refl (λ c next ts t up d. then_on d)
@@ -73,11 +77,13 @@ mutual
   known {form = form} {i = i} {l = l} (g.named_function {n = n} a b h r f) =
       by-linked form i l _ _ (one _ _ refl) (operand-end {l = 16} (lit≤ tt) (g.named_function {i = i} {n = n} a b (lit≤ tt) r f)) (λ c next ts t up d.
       then_on (onwards (rest-read f (λ ns body r. links c (Tree.Function (code (Some n) ns body)) next r) ts) d))
-  known {form = form} {i = i} {l = l} (g.late c1 c2 c3 c4 c5 c6 c7 h written number) = by-linked form i l _ _ (one _ _ refl) refl (λ c next ts t up d. then_on d)
-  known {form = form} {i = i} {l = l} (g.dot {n = n} {u = u} o a b h1 h2 h dx r) =
+  known {form = form} {i = i} {l = l} (g.late {n = n} c1 c2 c3 c4 c5 c6 c7 h written number) =
+      by-linked form i l _ _ (one _ _ refl) refl (λ c next ts t up d.
+      stepped (ap (λ f. mc.late_in f c next (mark m.OpenParenthesis c2 ∷ name get_name c3 ∷ mark m.OpenParenthesis c4 ∷ of_kind (k.Number n) c5 ∷ mark m.CloseParenthesis c6 ∷ mark m.CloseParenthesis c7 ∷ ts)) written) d)
+  known {form = form} {i = i} {l = l} (g.dot {n = n} {u = u} {x = x} o a b h1 h2 h dx r) =
       by-linked form i l _ _ (start.starts-append u _ (operand-starts (omega arith) dx)) (operand-end {l = 17} (lit≤ tt) (g.dot o a b h1 h2 h1 dx r)) (λ c next ts t up d.
       placed (operand c next) (append_assoc u (mark m.Dot a ∷ (name n b ∷ [])) ts)
-      ((known dx).linked h1 c next (mark m.Dot a ∷ (name n b ∷ ts)) t (λ f. let q = up f in omega arith) (then_on d)))
+      ((known dx).linked h1 c next (mark m.Dot a ∷ (name n b ∷ ts)) t (λ f. let q = up f in omega arith) (stepped (ap (λ a. if a then links c (Tree.Dot x n) next ts else stuck) r) d)))
   known {form = form} {i = i} {l = l} (g.index {u = u} {v = v} {x = x} o a b h1 h2 h dx dy) =
       by-linked form i l _ _ (start.starts-append u _ (operand-starts (omega arith) dx)) (operand-end {l = 17} (lit≤ tt) (g.index o a b h1 h2 h1 dx dy)) (λ c next ts t up d.
       placed (operand c next) (append_assoc u (mark m.OpenBracket a ∷ (v ++ (mark m.CloseBracket b ∷ []))) ts)
@@ -208,8 +214,9 @@ mutual
 
   declarator-read : {form : Form} {i : Bool} {u : Symbols} {n : Name} {value : MaybeExpr} → Declarator form i u n value → (next : Name → MaybeExpr → Symbols → State) (ts : Symbols) → declared_in i u (front ts) value < 2
       → Goes form (declarator i next (u ++ ts)) (next n value ts)
-  declarator-read {i = i} (g.bare {n = n} a h) next ts reaches = then_on (same (bare-stop i n next ts reaches))
-  declarator-read {i = i} (g.initialised {n = n} a b h x) next ts reaches = then_on (read-assign (known x) (lit≤ tt) (λ x r. next n (Tree.AnExpr x) r) ts reaches)
+  declarator-read {i = i} (g.bare {n = n} a h) next ts reaches = stepped (ap (λ a. if a then mc.initialiser i n next ts else stuck) h) (same (bare-stop i n next ts reaches))
+  declarator-read {i = i} (g.initialised {n = n} {u = u} a b h x) next ts reaches =
+      stepped (ap (λ a. if a then mc.initialiser i n next (mark m.Assign b ∷ (u ++ ts)) else stuck) h) (read-assign (known x) (lit≤ tt) (λ x r. next n (Tree.AnExpr x) r) ts reaches)
 
   declarators-read : {form : Form} {i : Bool} {u : Symbols} {items : VarItems} → DeclaratorList form i u items → (next : To VarItems) (ts : Symbols) → list_in i u (front ts) items < 1
       → Goes form (declarators i next (u ++ ts)) (next items ts)
@@ -388,3 +395,13 @@ one_tree form tokens tree other d e =
     ap body_of (one_end refl refl
     (placed (source done) d.whole (source-read d.derived done (end d.newline ∷ []) refl refl))
     (placed (source done) e.whole (source-read e.derived done (end e.newline ∷ []) refl refl)))
+
+abbrev is_done : State → Bool
+is_done (done ss ts) = true
+is_done _ = false
+
+-- what the machine is stuck at within some steps, whatever follows, begins no script
+pub never : (form : Form) (functions : ℕ) (used : Symbols) (n : ℕ) → ((more : Symbols) → mc.run form n (source done (used ++ more)) ≡ stuck) → Begins form functions used → ⊥
+never form functions used n h b = let d = b.unlimited.derives in
+    let e = ap is_done (one_end refl refl (placed (source done) d.whole (source-read d.derived done (end d.newline ∷ []) refl refl))
+    (subst (λ s. Goes form (source done (used ++ b.more)) s) (h b.more) (mc.runs form n (source done (used ++ b.more))))) in cc

@@ -1,5 +1,5 @@
 -- A machine that reads tokens from the left, one step at a time. It refuses little: it serves to show that tokens have one tree.
-use Rattle.std.proofs.Common.{if◌then◌else◌, ◌≡◌, ℕ, suc, nat_le, Bool, true, false, not, ◌&&◌, List, [], ◌∷◌, Option, Some, None, refl, ap, sym, ◌∙◌, subst}
+use Rattle.std.proofs.Common.{zero, if◌then◌else◌, ◌≡◌, ℕ, suc, nat_le, Bool, true, false, not, ◌&&◌, List, [], ◌∷◌, Option, Some, None, refl, ap, sym, ◌∙◌, subst}
 use Rattle.js_lexer.specs.declared.mark.Mark.TheVariants as m
 use Rattle.js_lexer.specs.declared.word.Word.TheVariants as w
 use Rattle.js_lexer.specs.declared.token.TokenKind.{TokenKind}
@@ -12,9 +12,10 @@ use Rattle.js_tree.specs.declared.tree.PostfixOp.TheVariants as q
 use Rattle.js_tree.specs.Tree.{Name, Expr, Exprs, MaybeExpr, Elements, Pairs, Stmt, Stmts, VarItems, Cases, ForInit, Handler}
 use Rattle.js_tree.specs.Tree
 use Rattle.js_grammar.specs.declared.form.Form.{Form}
+use Rattle.js_grammar.specs.declared.form.Form.TheVariants.{Source, Written}
 use Rattle.js_grammar.specs.Symbols.{Symbol, Symbols}
 use Rattle.js_grammar.specs.Operators.{Operator, LogicalOr, LogicalAnd, Operation, joined, level, may_operate}
-use Rattle.js_grammar.specs.Names.{key_of, is_eval}
+use Rattle.js_grammar.specs.Names.{key_of, is_eval, is_reference, is_binding, is_property}
 use Rattle.js_grammar.specs.Grammar.{code}
 
 -- what is to be read next, and what comes of it with the tokens that are left
@@ -190,9 +191,14 @@ abbrev pub late : Bool → To Expr → Symbols → State
 late c next (s1 ∷ s2 ∷ s3 ∷ s4 ∷ s5 ∷ s6 ∷ ts) = late_by s4.kind c next ts
 late c next _ = stuck
 
-abbrev pub name_by : Bool → Name → Bool → To Expr → Symbols → State
-name_by true n c next ts = late c next ts
-name_by false n c next ts = links c (Tree.Ident n) next ts
+-- in the form Written alone
+abbrev pub late_in : Form → Bool → To Expr → Symbols → State
+late_in Source c next ts = stuck
+late_in Written c next ts = late c next ts
+
+abbrev pub name_by : Bool → Form → Name → Bool → To Expr → Symbols → State
+name_by true form n c next ts = late_in form c next ts
+name_by false form n c next ts = if is_reference form n then links c (Tree.Ident n) next ts else stuck
 
 abbrev pub function_by : TokenKind → Bool → To Expr → Symbol → Symbols → State
 function_by (k.Name n) c next s ts = rest (λ ns body r. links c (Tree.Function (code (Some n) ns body)) next r) ts
@@ -202,34 +208,34 @@ abbrev pub function : Bool → To Expr → Symbols → State
 function c next [] = stuck
 function c next (s ∷ ts) = function_by s.kind c next s ts
 
-abbrev pub operand_by : TokenKind → Bool → To Expr → Symbols → State
-operand_by (k.Word w.New) c next ts = operand false (λ x r. after_new c x next r) ts
-operand_by (k.Word w.This) c next ts = links c Tree.This next ts
-operand_by (k.Word w.Null) c next ts = links c Tree.Null next ts
-operand_by (k.Word w.True) c next ts = links c (Tree.Truth true) next ts
-operand_by (k.Word w.False) c next ts = links c (Tree.Truth false) next ts
-operand_by (k.Word w.Function) c next ts = function c next ts
-operand_by (k.Name n) c next ts = name_by (is_eval n) n c next ts
-operand_by (k.Number n) c next ts = links c (Tree.Num n) next ts
-operand_by (k.Str text) c next ts = links c (Tree.Str text) next ts
-operand_by (k.Mark m.OpenBracket) c next ts = elements (λ es. expect is_close_bracket (links c (Tree.Array es) next)) ts
-operand_by (k.Mark m.OpenBrace) c next ts = pairs (λ ps. expect is_close_brace (links c (Tree.Object ps) next)) ts
-operand_by (k.Mark m.OpenParenthesis) c next ts = comma true (λ x. expect is_close_parenthesis (links c x next)) ts
-operand_by _ c next ts = stuck
+abbrev pub operand_by : Form → TokenKind → Bool → To Expr → Symbols → State
+operand_by form (k.Word w.New) c next ts = operand false (λ x r. after_new c x next r) ts
+operand_by form (k.Word w.This) c next ts = links c Tree.This next ts
+operand_by form (k.Word w.Null) c next ts = links c Tree.Null next ts
+operand_by form (k.Word w.True) c next ts = links c (Tree.Truth true) next ts
+operand_by form (k.Word w.False) c next ts = links c (Tree.Truth false) next ts
+operand_by form (k.Word w.Function) c next ts = function c next ts
+operand_by form (k.Name n) c next ts = name_by (is_eval n) form n c next ts
+operand_by form (k.Number n) c next ts = links c (Tree.Num n) next ts
+operand_by form (k.Str text) c next ts = links c (Tree.Str text) next ts
+operand_by form (k.Mark m.OpenBracket) c next ts = elements (λ es. expect is_close_bracket (links c (Tree.Array es) next)) ts
+operand_by form (k.Mark m.OpenBrace) c next ts = pairs (λ ps. expect is_close_brace (links c (Tree.Object ps) next)) ts
+operand_by form (k.Mark m.OpenParenthesis) c next ts = comma true (λ x. expect is_close_parenthesis (links c x next)) ts
+operand_by form _ c next ts = stuck
 
-abbrev pub dot_by : TokenKind → Bool → Expr → To Expr → Symbols → State
-dot_by (k.Name n) c x next ts = links c (Tree.Dot x n) next ts
-dot_by _ c x next ts = stuck
+abbrev pub dot_by : Form → TokenKind → Bool → Expr → To Expr → Symbols → State
+dot_by form (k.Name n) c x next ts = if is_property form n then links c (Tree.Dot x n) next ts else stuck
+dot_by form _ c x next ts = stuck
 
-abbrev pub dot : Bool → Expr → To Expr → Symbols → State
-dot c x next [] = stuck
-dot c x next (s ∷ ts) = dot_by s.kind c x next ts
+abbrev pub dot : Form → Bool → Expr → To Expr → Symbols → State
+dot form c x next [] = stuck
+dot form c x next (s ∷ ts) = dot_by form s.kind c x next ts
 
-abbrev pub links_by : TokenKind → Bool → Expr → To Expr → Symbol → Symbols → State
-links_by (k.Mark m.Dot) c x next s ts = dot c x next ts
-links_by (k.Mark m.OpenBracket) c x next s ts = comma true (λ y. expect is_close_bracket (links c (Tree.Index x y) next)) ts
-links_by (k.Mark m.OpenParenthesis) true x next s ts = arguments (λ xs. expect is_close_parenthesis (links true (Tree.Call x xs) next)) ts
-links_by _ c x next s ts = next x (s ∷ ts)
+abbrev pub links_by : Form → TokenKind → Bool → Expr → To Expr → Symbol → Symbols → State
+links_by form (k.Mark m.Dot) c x next s ts = dot form c x next ts
+links_by form (k.Mark m.OpenBracket) c x next s ts = comma true (λ y. expect is_close_bracket (links c (Tree.Index x y) next)) ts
+links_by form (k.Mark m.OpenParenthesis) true x next s ts = arguments (λ xs. expect is_close_parenthesis (links true (Tree.Call x xs) next)) ts
+links_by form _ c x next s ts = next x (s ∷ ts)
 
 abbrev pub arguments_by : TokenKind → To Exprs → Symbol → Symbols → State
 arguments_by (k.Mark m.CloseParenthesis) next s ts = next Tree.NoExprs (s ∷ ts)
@@ -290,9 +296,9 @@ abbrev pub initialiser : Bool → Name → (Name → MaybeExpr → Symbols → S
 initialiser i n next [] = next n Tree.NoExpr []
 initialiser i n next (s ∷ ts) = initialiser_by s.kind i n next s ts
 
-abbrev pub declarator_by : TokenKind → Bool → (Name → MaybeExpr → Symbols → State) → Symbols → State
-declarator_by (k.Name n) i next ts = initialiser i n next ts
-declarator_by _ i next ts = stuck
+abbrev pub declarator_by : Form → TokenKind → Bool → (Name → MaybeExpr → Symbols → State) → Symbols → State
+declarator_by form (k.Name n) i next ts = if is_binding form n then initialiser i n next ts else stuck
+declarator_by form _ i next ts = stuck
 
 abbrev pub declarators_by : TokenKind → Bool → Name → MaybeExpr → To VarItems → Symbol → Symbols → State
 declarators_by (k.Mark m.Comma) i n value next s ts = declarators i (λ items r. next (Tree.MoreVarItems n value items) r) ts
@@ -418,6 +424,7 @@ statement_by (k.Word w.Switch) next s ts =
     expect is_open_parenthesis (comma true (λ x. expect is_close_parenthesis (expect is_open_brace (clauses (λ cs. expect is_close_brace (next (Tree.Switch x cs))))))) ts
 statement_by (k.Word w.Throw) next s ts = comma true (λ x r. next (Tree.Throw x) (ended r)) ts
 statement_by (k.Word w.Try) next s ts = statement (λ block r. after_try block next r) ts
+statement_by (k.Word w.Function) next s ts = stuck
 statement_by (k.Name n) next s ts = label n next s ts
 statement_by _ next s ts = stated next (s ∷ ts)
 
@@ -466,9 +473,9 @@ step form (unary next (s ∷ ts)) = unary_by (prefix_of s.kind) next s ts
 step form (postfix x next []) = next x []
 step form (postfix x next (s ∷ ts)) = postfix_by s.kind s.newline x next s ts
 step form (operand c next []) = stuck
-step form (operand c next (s ∷ ts)) = operand_by s.kind c next ts
+step form (operand c next (s ∷ ts)) = operand_by form s.kind c next ts
 step form (links c x next []) = next x []
-step form (links c x next (s ∷ ts)) = links_by s.kind c x next s ts
+step form (links c x next (s ∷ ts)) = links_by form s.kind c x next s ts
 step form (arguments next []) = stuck
 step form (arguments next (s ∷ ts)) = arguments_by s.kind next s ts
 step form (argument_list next ts) = assign true (λ x r. after_argument x next r) ts
@@ -481,7 +488,7 @@ step form (rest next ts) =
 step form (formals next []) = stuck
 step form (formals next (s ∷ ts)) = formals_by s.kind next s ts
 step form (declarator i next []) = stuck
-step form (declarator i next (s ∷ ts)) = declarator_by s.kind i next ts
+step form (declarator i next (s ∷ ts)) = declarator_by form s.kind i next ts
 step form (declarators i next ts) = declarator i (λ n value r. after_declarator i n value next r) ts
 step form (optional next []) = stuck
 step form (optional next (s ∷ ts)) = optional_by s.kind next s ts
@@ -517,3 +524,12 @@ pub one_end : {form : Form} {s t o : State} → step form t ≡ t → step form 
 one_end f h here e = stays refl f e
 one_end f h (then_on d) here = sym (stays refl h (then_on d))
 one_end f h (then_on d) (then_on e) = one_end f h d e
+
+-- so many steps
+abbrev pub run : Form → ℕ → State → State
+run form zero s = s
+run form (suc n) s = run form n (step form s)
+
+pub runs : (form : Form) (n : ℕ) (s : State) → Goes form s (run form n s)
+runs form zero s = here
+runs form (suc n) s = then_on (runs form n (step form s))

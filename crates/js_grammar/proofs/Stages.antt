@@ -47,9 +47,9 @@ and-false false = refl
 
 pub links-stop : {form : Form} (c : Bool) (x : Expr) (next : To Expr) (r : Symbols) → kind_reach false (front r).newline (front r).kind < 16 → Goes form (links c x next r) (next x r)
 links-stop c x next [] h = then_on here
-links-stop c x next (s ∷ ts) h = stepped (at s.kind h) here
+links-stop {form = form} c x next (s ∷ ts) h = stepped (at s.kind h) here
   where
-    at : (kind : TokenKind) → kind_reach false s.newline kind < 16 → links_by kind c x next s ts ≡ next x (s ∷ ts)
+    at : (kind : TokenKind) → kind_reach false s.newline kind < 16 → links_by form kind c x next s ts ≡ next x (s ∷ ts)
     at (k.Mark m.Dot) h = absurd (omega arith)
     at (k.Mark m.OpenBracket) h = absurd (omega arith)
     at (k.Mark m.OpenParenthesis) h = absurd (omega arith)

@@ -46,6 +46,11 @@ pub fn refused_texts()
     ensures nots_refused { Fault Source (source_limits 65535) (refused.nots 399 0) (TooDeep (place 1 1)) }
     ensures spent { Fault Source refused.one_bracket refused.brackets (TooDeep (place 1 1)) }
     ensures not_only_spent { Fault Source refused.one_bracket refused.brackets (Refused (place 1 3) c.With) }
+    ensures regular_expression { Fault Source (source_limits 65535) refused.regular_expression (Refused (place 1 3) c.RegExp) }
+    ensures function_in_if { Fault Source (source_limits 65535) refused.function_in_if (Refused (place 1 6) c.FunctionPlace) }
+    ensures eval_called { Fault Source (source_limits 65535) refused.eval_called (Refused (place 1 3) c.Eval) }
+    ensures callee_read { Fault Source (source_limits 65535) refused.callee_read (Refused (place 1 3) c.Callee) }
+    ensures arguments_declared { Fault Source (source_limits 65535) refused.arguments_declared (Refused (place 1 5) c.Arguments) }
 {}
 
 /// What is told of a token behind `function f(a`, where it is the breaking one.
