@@ -20,16 +20,16 @@ use Rattle.js_grammar.proofs.Counting.{source}
 use Rattle.js_grammar.proofs.Breaking.{not_broken}
 use Rattle.js_grammar.proofs.Completing.{one_tree}
 
-abbrev and_then : Stmts → Stmts → Stmts
+abbrev pub and_then : Stmts → Stmts → Stmts
 and_then Tree.NoStmts others = others
 and_then (Tree.MoreStmts s ss) others = Tree.MoreStmts s (and_then ss others)
 
-first-join : (u v : Symbols) (next : Symbol) → first (u ++ v) next ≡ first u (first v next)
+pub first-join : (u v : Symbols) (next : Symbol) → first (u ++ v) next ≡ first u (first v next)
 first-join [] v next = refl
 first-join (s ∷ u) v next = refl
 
 -- elements, and then elements
-joined : {form : Form} {c : Context} {u : Symbols} {middle : Symbol} {ss others : Stmts} (v : Symbols) (next : Symbol) → SourceElements form c u middle ss → middle ≡ first v next → SourceElements form c v next others
+pub joined : {form : Form} {c : Context} {u : Symbols} {middle : Symbol} {ss others : Stmts} (v : Symbols) (next : Symbol) → SourceElements form c u middle ss → middle ≡ first v next → SourceElements form c v next others
     → SourceElements form c (u ++ v) next (and_then ss others)
 joined v next g.no_source h e = e
 joined {form = form} {c = c} {middle = middle} {others = others} w next (g.source_and {u = u} {v = v} {s = s} {ss = ss} d ds) h e =

@@ -16,3 +16,4 @@ pub mod Stages
 pub mod Completing
 pub mod Accepting
 pub mod Following
+pub mod Somewhere

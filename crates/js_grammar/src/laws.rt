@@ -91,3 +91,8 @@ pub fn one_tree()
 pub fn accepted_has_no_fault()
     ensures { law.AcceptedHasNoFault }
 {}
+
+/// Where a script breaks a limit, one of its statements and declarations is the first in which it does.
+pub fn limits_break_in_a_statement()
+    ensures { law.LimitsBreakInAStatement }
+{}
