@@ -340,7 +340,7 @@ mutual
   source_element (g.statement s) = statement s
   source_element (g.declaration {n = n} {ns = ns} {body = body} c d r f) = function_word (g.code (Some n) ns body) (plain (mere (λ n. refl) (λ n. refl)) (rest f))
 
-  source : {form : Form} {c : Context} {u : Symbols} {next : Symbol} {ss : Stmts} → SourceElements form c u next ss → Counts u (in_stmts ss)
+  pub source : {form : Form} {c : Context} {u : Symbols} {next : Symbol} {ss : Stmts} → SourceElements form c u next ss → Counts u (in_stmts ss)
   source g.no_source = nothing
   source (g.source_and s ss) = join (source_element s) (source ss)
 

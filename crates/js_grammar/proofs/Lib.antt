@@ -10,3 +10,10 @@ pub mod Keys
 pub mod Breaking
 pub mod Counting
 pub mod Tokens
+pub mod Reader
+pub mod Beginning
+pub mod Stages
+pub mod Completing
+pub mod Accepting
+pub mod Following
+pub mod Somewhere

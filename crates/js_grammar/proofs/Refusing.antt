@@ -19,6 +19,7 @@ use Rattle.js_grammar.specs.Fault as fault
 use Rattle.js_grammar.specs.RefusedRows as rows
 use Rattle.js_grammar.specs.RefusedRows.{place, token}
 use Rattle.js_grammar.proofs.Placing.{begun}
+use Rattle.js_grammar.proofs.Completing.{never}
 
 pub with_statement : Fault Source (source_limits 65535) rows.with_statement (Refused (place 3 5) c.With)
 with_statement = breaking (token (k.Word w.Var) 0 3 1 1 false ∷ token (k.Name (codes "a")) 4 5 1 5 false ∷ token (k.Mark m.Semicolon) 5 6 1 6 false ∷ token (k.Word w.Var) 7 10 2 1 true ∷ token (k.Name (codes "b")) 11 12 2 5 false ∷ token (k.Mark m.Semicolon) 12 13 2 6 false ∷ token (k.Name (codes "a")) 14 15 3 1 true ∷ token (k.Mark m.Assign) 15 16 3 2 false ∷ token (k.Number 1) 16 17 3 3 false ∷ token (k.Mark m.Semicolon) 17 18 3 4 false ∷ []) (token (k.Word w.With) 18 22 3 5 false) (record {
@@ -244,3 +245,63 @@ told_other_name = refl
 
 pub told_end : rows.told k.End ≡ Syntax (place 1 1)
 told_end = refl
+
+pub regular_expression : Fault Source (source_limits 65535) rows.regular_expression (Refused (place 1 3) c.RegExp)
+regular_expression = breaking (token (k.Name (codes "x")) 0 1 1 1 false ∷ token (k.Mark m.Assign) 1 2 1 2 false ∷ []) (token (k.Mark m.Slash) 2 3 1 3 false) (record {
+  rest = token (k.Name (codes "a")) 3 4 1 4 false ∷ token (k.Mark m.Slash) 4 5 1 5 false ∷ token k.End 8 8 1 9 false ∷ [];
+  whole = refl;
+  begins = record {
+    more = number 1 false ∷ mark m.Semicolon false ∷ end false ∷ [];
+    tree = (Tree.MoreStmts (Tree.Do (Tree.Assign None (Tree.Ident (codes "x")) (Tree.Num 1))) Tree.NoStmts);
+    unlimited = record { derives = record { elements = name (codes "x") false ∷ mark m.Assign false ∷ number 1 false ∷ mark m.Semicolon false ∷ []; newline = false; whole = refl; derived = (g.source_and (g.statement (g.expression (g.assign None m.Assign false (lit≤ tt) refl (g.identifier false (lit≤ tt) refl) refl (g.numeral false (lit≤ tt))) (λ e. cc) (λ e. cc) (written false))) g.no_source) }; few_functions = lit≤ tt };
+  };
+  ends = never Source 65535 (symbols (token (k.Name (codes "x")) 0 1 1 1 false ∷ token (k.Mark m.Assign) 1 2 1 2 false ∷ token (k.Mark m.Slash) 2 3 1 3 false ∷ [])) 60 (λ more. refl);
+}) refl
+
+pub function_in_if : Fault Source (source_limits 65535) rows.function_in_if (Refused (place 1 6) c.FunctionPlace)
+function_in_if = breaking (token (k.Word w.If) 0 2 1 1 false ∷ token (k.Mark m.OpenParenthesis) 2 3 1 3 false ∷ token (k.Name (codes "a")) 3 4 1 4 false ∷ token (k.Mark m.CloseParenthesis) 4 5 1 5 false ∷ []) (token (k.Word w.Function) 5 13 1 6 false) (record {
+  rest = token (k.Name (codes "f")) 14 15 1 15 false ∷ token (k.Mark m.OpenParenthesis) 15 16 1 16 false ∷ token (k.Mark m.CloseParenthesis) 16 17 1 17 false ∷ token (k.Mark m.OpenBrace) 17 18 1 18 false ∷ token (k.Mark m.CloseBrace) 18 19 1 19 false ∷ token k.End 22 22 1 23 false ∷ [];
+  whole = refl;
+  begins = record {
+    more = mark m.Semicolon false ∷ end false ∷ [];
+    tree = (Tree.MoreStmts (Tree.If (Tree.Ident (codes "a")) Tree.Empty Tree.NoStmt) Tree.NoStmts);
+    unlimited = record { derives = record { elements = word w.If false ∷ mark m.OpenParenthesis false ∷ name (codes "a") false ∷ mark m.CloseParenthesis false ∷ mark m.Semicolon false ∷ []; newline = false; whole = refl; derived = (g.source_and (g.statement (g.if false false false (g.identifier false (lit≤ tt) refl) (g.empty false) (λ e. cc))) g.no_source) }; few_functions = lit≤ tt };
+  };
+  ends = never Source 65535 (symbols (token (k.Word w.If) 0 2 1 1 false ∷ token (k.Mark m.OpenParenthesis) 2 3 1 3 false ∷ token (k.Name (codes "a")) 3 4 1 4 false ∷ token (k.Mark m.CloseParenthesis) 4 5 1 5 false ∷ token (k.Word w.Function) 5 13 1 6 false ∷ [])) 60 (λ more. refl);
+}) refl
+
+pub eval_called : Fault Source (source_limits 65535) rows.eval_called (Refused (place 1 3) c.Eval)
+eval_called = breaking (token (k.Name (codes "x")) 0 1 1 1 false ∷ token (k.Mark m.Assign) 1 2 1 2 false ∷ []) (token (k.Name (codes "eval")) 2 6 1 3 false) (record {
+  rest = token (k.Mark m.OpenParenthesis) 6 7 1 7 false ∷ token (k.Number 1) 7 8 1 8 false ∷ token (k.Mark m.CloseParenthesis) 8 9 1 9 false ∷ token k.End 12 12 1 13 false ∷ [];
+  whole = refl;
+  begins = record {
+    more = number 1 false ∷ mark m.Semicolon false ∷ end false ∷ [];
+    tree = (Tree.MoreStmts (Tree.Do (Tree.Assign None (Tree.Ident (codes "x")) (Tree.Num 1))) Tree.NoStmts);
+    unlimited = record { derives = record { elements = name (codes "x") false ∷ mark m.Assign false ∷ number 1 false ∷ mark m.Semicolon false ∷ []; newline = false; whole = refl; derived = (g.source_and (g.statement (g.expression (g.assign None m.Assign false (lit≤ tt) refl (g.identifier false (lit≤ tt) refl) refl (g.numeral false (lit≤ tt))) (λ e. cc) (λ e. cc) (written false))) g.no_source) }; few_functions = lit≤ tt };
+  };
+  ends = never Source 65535 (symbols (token (k.Name (codes "x")) 0 1 1 1 false ∷ token (k.Mark m.Assign) 1 2 1 2 false ∷ token (k.Name (codes "eval")) 2 6 1 3 false ∷ [])) 60 (λ more. refl);
+}) refl
+
+pub callee_read : Fault Source (source_limits 65535) rows.callee_read (Refused (place 1 3) c.Callee)
+callee_read = breaking (token (k.Name (codes "a")) 0 1 1 1 false ∷ token (k.Mark m.Dot) 1 2 1 2 false ∷ []) (token (k.Name (codes "callee")) 2 8 1 3 false) (record {
+  rest = token k.End 8 8 1 9 false ∷ [];
+  whole = refl;
+  begins = record {
+    more = name (codes "b") false ∷ mark m.Semicolon false ∷ end false ∷ [];
+    tree = (Tree.MoreStmts (Tree.Do (Tree.Dot (Tree.Ident (codes "a")) (codes "b"))) Tree.NoStmts);
+    unlimited = record { derives = record { elements = name (codes "a") false ∷ mark m.Dot false ∷ name (codes "b") false ∷ mark m.Semicolon false ∷ []; newline = false; whole = refl; derived = (g.source_and (g.statement (g.expression (g.dot 18 false false (lit≤ tt) (lit≤ tt) (lit≤ tt) (g.identifier false (lit≤ tt) refl) refl) (λ e. cc) (λ e. cc) (written false))) g.no_source) }; few_functions = lit≤ tt };
+  };
+  ends = never Source 65535 (symbols (token (k.Name (codes "a")) 0 1 1 1 false ∷ token (k.Mark m.Dot) 1 2 1 2 false ∷ token (k.Name (codes "callee")) 2 8 1 3 false ∷ [])) 60 (λ more. refl);
+}) refl
+
+pub arguments_declared : Fault Source (source_limits 65535) rows.arguments_declared (Refused (place 1 5) c.Arguments)
+arguments_declared = breaking (token (k.Word w.Var) 0 3 1 1 false ∷ []) (token (k.Name (codes "arguments")) 4 13 1 5 false) (record {
+  rest = token k.End 13 13 1 14 false ∷ [];
+  whole = refl;
+  begins = record {
+    more = name (codes "b") false ∷ mark m.Semicolon false ∷ end false ∷ [];
+    tree = (Tree.MoreStmts (Tree.Variables (Tree.MoreVarItems (codes "b") Tree.NoExpr Tree.NoVarItems)) Tree.NoStmts);
+    unlimited = record { derives = record { elements = word w.Var false ∷ name (codes "b") false ∷ mark m.Semicolon false ∷ []; newline = false; whole = refl; derived = (g.source_and (g.statement (g.variables false (g.last_declarator (g.bare false refl)) (written false))) g.no_source) }; few_functions = lit≤ tt };
+  };
+  ends = never Source 65535 (symbols (token (k.Word w.Var) 0 3 1 1 false ∷ token (k.Name (codes "arguments")) 4 13 1 5 false ∷ [])) 60 (λ more. refl);
+}) refl

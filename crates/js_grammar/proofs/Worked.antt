@@ -1,5 +1,5 @@
 -- The derivations of the worked texts.
-use Rattle.std.proofs.Common.{true, false, [], ◌∷◌, codes, None, refl, lit≤}
+use Rattle.std.proofs.Common.{◌≡◌, true, false, [], ◌∷◌, codes, None, refl, lit≤}
 use Rattle.std.specs.Char.Utf16.{utf16_chars}
 use Rattle.std.specs.Fmt.{digits}
 use Rattle.unicode_ident.proofs.Computing.{unicode_ident}
@@ -15,6 +15,7 @@ use Rattle.js_grammar.specs.Operators.{LogicalOr, Operation}
 use Rattle.js_grammar.specs.Ends.{at_line, at_brace, at_end, written, before_line, before_brace}
 use Rattle.js_grammar.specs.Accepted.{source_limits, written_limits}
 use Rattle.js_grammar.specs.Grammar as g
+use Rattle.js_grammar.specs.PrintedText.{body_text, entry_text, func_text}
 use Rattle.js_grammar.specs.Rows as rows
 
 -- `a` LF `++` LF `b`
@@ -358,3 +359,15 @@ stub = (
   },
   refl,
 )
+
+pub entry_function : func_text rows.entry ≡ codes "function(){host.out(\"two\");}"
+unfolding unicode_ident utf16_chars digits
+entry_function = refl
+
+pub entry_body : body_text rows.entry_body ≡ codes "host.out(\"two\");"
+unfolding unicode_ident utf16_chars digits
+entry_body = refl
+
+pub entry : entry_text rows.entry ≡ codes "(function(){host.out(\"two\");})"
+unfolding unicode_ident utf16_chars digits
+entry = refl

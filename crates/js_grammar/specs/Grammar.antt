@@ -42,18 +42,23 @@ code name formals body = Tree.Code 0 name formals body Plain
 mutual
   -- The tokens are an expression of this level, with this tree.
   pub data Expression (form : Form) : Bool → ℕ → Symbols → Expr → Type 0 where
-    -- 11.1
+    -- 11.1.1
     this : {i : Bool} {l : ℕ} (b : Bool) → l ≤ 19 → Expression form i l (word w.This b ∷ []) Tree.This
+    -- 11.1.2
     identifier : {i : Bool} {l : ℕ} {n : Name} (b : Bool) → l ≤ 19 → is_reference form n ≡ true → Expression form i l (name n b ∷ []) (Tree.Ident n)
+    -- 11.1.3, with 7.8
     null : {i : Bool} {l : ℕ} (b : Bool) → l ≤ 19 → Expression form i l (word w.Null b ∷ []) Tree.Null
     truth : {i : Bool} {l : ℕ} (b : Bool) → l ≤ 19 → Expression form i l (word w.True b ∷ []) (Tree.Truth true)
     falsehood : {i : Bool} {l : ℕ} (b : Bool) → l ≤ 19 → Expression form i l (word w.False b ∷ []) (Tree.Truth false)
     numeral : {i : Bool} {l n : ℕ} (b : Bool) → l ≤ 19 → Expression form i l (number n b ∷ []) (Tree.Num n)
     literal : {i : Bool} {l : ℕ} {text : Name} (b : Bool) → l ≤ 19 → Expression form i l (string text b ∷ []) (Tree.Str text)
+    -- 11.1.4
     array : {i : Bool} {l : ℕ} {u : Symbols} {es : Elements} (b c : Bool) → l ≤ 19 → ElementList form u es
         → Expression form i l (mark m.OpenBracket b ∷ (u ++ (mark m.CloseBracket c ∷ []))) (Tree.Array es)
+    -- 11.1.5
     object : {i : Bool} {l : ℕ} {u : Symbols} {ps : Pairs} (b c : Bool) → l ≤ 19 → PropertyList form u ps
         → Expression form i l (mark m.OpenBrace b ∷ (u ++ (mark m.CloseBrace c ∷ []))) (Tree.Object ps)
+    -- 11.1.6
     parenthesised : {i : Bool} {l : ℕ} {u : Symbols} {x : Expr} (b c : Bool) → l ≤ 19 → Expression form true 1 u x
         → Expression form i l (mark m.OpenParenthesis b ∷ (u ++ (mark m.CloseParenthesis c ∷ []))) x
     -- 13: function expressions
@@ -64,24 +69,26 @@ mutual
     -- `eval($dl_get(k))`, in the form Written alone
     late : {i : Bool} {l n : ℕ} (b c d e f g h : Bool) → l ≤ 19 → form ≡ Written → is_function_number n ≡ true
         → Expression form i l (name (codes "eval") b ∷ mark m.OpenParenthesis c ∷ name get_name d ∷ mark m.OpenParenthesis e ∷ number n f ∷ mark m.CloseParenthesis g ∷ mark m.CloseParenthesis h ∷ []) (Tree.Late n)
-    -- 11.2: a member of a MemberExpression, or of a CallExpression
+    -- 11.2.1: a member of a MemberExpression, or of a CallExpression
     dot : {i : Bool} {l : ℕ} {n : Name} {u : Symbols} {x : Expr} (o : ℕ) (b c : Bool) → 17 ≤ o → o ≤ 18 → l ≤ o → Expression form i o u x → is_property form n ≡ true
         → Expression form i l (u ++ (mark m.Dot b ∷ (name n c ∷ []))) (Tree.Dot x n)
     index : {i : Bool} {l : ℕ} {u v : Symbols} {x y : Expr} (o : ℕ) (b c : Bool) → 17 ≤ o → o ≤ 18 → l ≤ o → Expression form i o u x → Expression form true 1 v y
         → Expression form i l (u ++ (mark m.OpenBracket b ∷ (v ++ (mark m.CloseBracket c ∷ [])))) (Tree.Index x y)
+    -- 11.2.3
     call : {i : Bool} {l : ℕ} {u v : Symbols} {x : Expr} {xs : Exprs} → l ≤ 17 → Expression form i 17 u x → Arguments form v xs
         → Expression form i l (u ++ v) (Tree.Call x xs)
-    -- `new` takes the first arguments behind its callee, a MemberExpression
+    -- 11.2.2: `new` takes the first arguments behind its callee, a MemberExpression
     new : {i : Bool} {l : ℕ} {u v : Symbols} {x : Expr} {xs : Exprs} (b : Bool) → l ≤ 18 → Expression form i 18 u x → Arguments form v xs
         → Expression form i l (word w.New b ∷ (u ++ v)) (Tree.New x xs)
     bare_new : {i : Bool} {l : ℕ} {u : Symbols} {x : Expr} (b : Bool) → l ≤ 16 → NewCallee form i u x
         → Expression form i l (word w.New b ∷ u) (Tree.New x Tree.NoExprs)
-    -- 11.3: no line terminator stands before the operator
+    -- 11.3.1, 11.3.2: no line terminator stands before the operator
     postfix : {i : Bool} {l : ℕ} {u : Symbols} {x : Expr} (op : PostfixOp) → l ≤ 15 → Expression form i 16 u x → is_target x ≡ true
         → Expression form i l (u ++ (of_kind (postfix_sign op) false ∷ [])) (Tree.Postfix x op)
-    -- 11.4
+    -- 11.4.1 to 11.4.3, 11.4.6 to 11.4.9
     prefix : {i : Bool} {l : ℕ} {u : Symbols} {x : Expr} (op : PrefixOp) (b : Bool) → l ≤ 14 → changes op ≡ false → Expression form i 14 u x
         → Expression form i l (of_kind (prefix_sign op) b ∷ u) (Tree.Prefix op x)
+    -- 11.4.4, 11.4.5: the operand is a target
     changed : {i : Bool} {l : ℕ} {u : Symbols} {x : Expr} (op : PrefixOp) (b : Bool) → l ≤ 14 → changes op ≡ true → Expression form i 16 u x → is_target x ≡ true
         → Expression form i l (of_kind (prefix_sign op) b ∷ u) (Tree.Prefix op x)
     -- 11.5 to 11.11: the left operand may be of the same level, the right one is of a higher one
@@ -91,14 +98,14 @@ mutual
     -- 11.12: the middle part stands as in brackets
     conditional : {i : Bool} {l : ℕ} {u v z : Symbols} {x y other : Expr} (b c : Bool) → l ≤ 3 → Expression form i 4 u x → Expression form true 2 v y → Expression form i 2 z other
         → Expression form i l (u ++ (mark m.Question b ∷ (v ++ (mark m.Colon c ∷ z)))) (Tree.Cond x y other)
-    -- 11.13
+    -- 11.13: to a target
     assign : {i : Bool} {l : ℕ} {u v : Symbols} {x y : Expr} (op : Option BinaryOp) (joint : Mark) (b : Bool) → l ≤ 2 → assignment op ≡ Some joint
         → Expression form i 16 u x → is_target x ≡ true → Expression form i 2 v y → Expression form i l (u ++ (mark joint b ∷ v)) (Tree.Assign op x y)
     -- 11.14
     comma : {i : Bool} {l : ℕ} {u v : Symbols} {x y : Expr} (b : Bool) → l ≤ 1 → Expression form i 1 u x → Expression form i 2 v y
         → Expression form i l (u ++ (mark m.Comma b ∷ v)) (Tree.Comma x y)
 
-  -- 11.2: the callee of a `new` without arguments, a NewExpression
+  -- 11.2.2: the callee of a `new` without arguments, a NewExpression
   pub data NewCallee (form : Form) : Bool → Symbols → Expr → Type 0 where
     member : {i : Bool} {u : Symbols} {x : Expr} → Expression form i 18 u x → NewCallee form i u x
     new_again : {i : Bool} {u : Symbols} {x : Expr} (b : Bool) → NewCallee form i u x → NewCallee form i (word w.New b ∷ u) (Tree.New x Tree.NoExprs)
@@ -154,7 +161,7 @@ mutual
     absent : OptionalExpression form [] Tree.NoExpr
     present : {u : Symbols} {x : Expr} → Expression form true 1 u x → OptionalExpression form u (Tree.AnExpr x)
 
-  -- 12.6.3: the first part of a `for` header, in which the operator `in` does not stand outside brackets
+  -- 12.6.3: the first part of a `for` header, ExpressionNoIn or VariableDeclarationListNoIn, in which the operator `in` does not stand outside brackets
   pub data ForFirst (form : Form) : Symbols → ForInit → Type 0 where
     nothing_first : ForFirst form [] Tree.Nothing
     variables_first : {u : Symbols} {items : VarItems} (b : Bool) → DeclaratorList form false u items → ForFirst form (word w.Var b ∷ u) (Tree.Vars items)

@@ -15,8 +15,9 @@ use Rattle.js_grammar.specs.Ends.{ends_changed}
 use Rattle.js_grammar.specs.Grammar.{Formals, Expression, ArgumentList, DeclaratorList, Statement, SourceElement}
 use Rattle.js_lexer.specs.declared.token.Token.{Token}
 use Rattle.js_tree.specs.Numbering.{in_stmts}
-use Rattle.js_grammar.specs.Accepted.{Derives, IsUnlimited, functions_in, opened}
-use Rattle.js_grammar.specs.Fault.{Begins, Breaks}
+use Rattle.js_grammar.specs.Accepted.{Accepted, Derives, IsOverAt, IsUnlimited, Keeps, functions_in, opened}
+use Rattle.js_grammar.specs.Fault.{Begins, Breaks, Fault, Answer}
+use Rattle.js_grammar.specs.declared.form.Limits.{Limits}
 use Rattle.js_grammar.specs.WellPlaced.{are_placed}
 
 -- an expression of a level is one of each lower level
@@ -135,3 +136,16 @@ BracketsAreClosed = (form : Form) (c : Context) (u : Symbols) (next : Symbol) (s
 -- An expression that is one token has one tree.
 abbrev pub OneTreeOfAToken : Type 0
 OneTreeOfAToken = (form : Form) (i j : Bool) (l o : ℕ) (s : Symbol) (x y : Expr) → Expression form i l (s ∷ []) x → Expression form j o (s ∷ []) y → x ≡ y
+
+-- At most one tree is derived from a list of tokens.
+abbrev pub OneTree : Type 0
+OneTree = (form : Form) (tokens : Symbols) (tree other : Script) → Derives form tokens tree → Derives form tokens other → tree ≡ other
+
+-- Nothing is told of tokens that are an accepted script.
+abbrev pub AcceptedHasNoFault : Type 0
+AcceptedHasNoFault = (form : Form) (limits : Limits) (tokens : List Token) (tree : Script) (told : Answer) → Accepted form limits (symbols tokens) tree → Fault form limits tokens told → ⊥
+
+-- Where a script breaks a limit, one of its statements and declarations is the first in which it does.
+abbrev pub LimitsBreakInAStatement : Type 0
+LimitsBreakInAStatement = (form : Form) (limits : Limits) (tokens : Symbols) (tree : Script) → IsUnlimited form limits.functions tokens tree → (Keeps limits tokens tree → ⊥)
+    → (n : ℕ) × IsOverAt form limits tokens n

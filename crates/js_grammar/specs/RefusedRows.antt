@@ -57,3 +57,23 @@ one_bracket = record { depth = 400; nesting = 64; brackets = 1; functions = 6553
 -- what is told of a token behind the tokens `function f(a`, if it is the breaking one
 abbrev pub told : TokenKind → Answer
 told kind = answer 2 (word w.Function false ∷ name (codes "f") false ∷ mark m.OpenParenthesis false ∷ name (codes "a") false ∷ []) (token kind 0 0 1 1 false)
+
+-- `x=/a/`
+abbrev pub regular_expression : List Token
+regular_expression = token (k.Name (codes "x")) 0 1 1 1 false ∷ token (k.Mark m.Assign) 1 2 1 2 false ∷ token (k.Mark m.Slash) 2 3 1 3 false ∷ token (k.Name (codes "a")) 3 4 1 4 false ∷ token (k.Mark m.Slash) 4 5 1 5 false ∷ token k.End 8 8 1 9 false ∷ []
+
+-- `if(a)function f(){}`
+abbrev pub function_in_if : List Token
+function_in_if = token (k.Word w.If) 0 2 1 1 false ∷ token (k.Mark m.OpenParenthesis) 2 3 1 3 false ∷ token (k.Name (codes "a")) 3 4 1 4 false ∷ token (k.Mark m.CloseParenthesis) 4 5 1 5 false ∷ token (k.Word w.Function) 5 13 1 6 false ∷ token (k.Name (codes "f")) 14 15 1 15 false ∷ token (k.Mark m.OpenParenthesis) 15 16 1 16 false ∷ token (k.Mark m.CloseParenthesis) 16 17 1 17 false ∷ token (k.Mark m.OpenBrace) 17 18 1 18 false ∷ token (k.Mark m.CloseBrace) 18 19 1 19 false ∷ token k.End 22 22 1 23 false ∷ []
+
+-- `x=eval(1)`
+abbrev pub eval_called : List Token
+eval_called = token (k.Name (codes "x")) 0 1 1 1 false ∷ token (k.Mark m.Assign) 1 2 1 2 false ∷ token (k.Name (codes "eval")) 2 6 1 3 false ∷ token (k.Mark m.OpenParenthesis) 6 7 1 7 false ∷ token (k.Number 1) 7 8 1 8 false ∷ token (k.Mark m.CloseParenthesis) 8 9 1 9 false ∷ token k.End 12 12 1 13 false ∷ []
+
+-- `a.callee`
+abbrev pub callee_read : List Token
+callee_read = token (k.Name (codes "a")) 0 1 1 1 false ∷ token (k.Mark m.Dot) 1 2 1 2 false ∷ token (k.Name (codes "callee")) 2 8 1 3 false ∷ token k.End 8 8 1 9 false ∷ []
+
+-- `var arguments`
+abbrev pub arguments_declared : List Token
+arguments_declared = token (k.Word w.Var) 0 3 1 1 false ∷ token (k.Name (codes "arguments")) 4 13 1 5 false ∷ token k.End 13 13 1 14 false ∷ []

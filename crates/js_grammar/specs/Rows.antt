@@ -5,7 +5,7 @@ use Rattle.js_lexer.specs.declared.word.Word.TheVariants as w
 use Rattle.js_tree.specs.declared.tree.BinaryOp.TheVariants as b
 use Rattle.js_tree.specs.declared.tree.PrefixOp.TheVariants as p
 use Rattle.js_tree.specs.declared.tree.PostfixOp.TheVariants as q
-use Rattle.js_tree.specs.Tree.{Script}
+use Rattle.js_tree.specs.Tree.{Script, Func, Stmts}
 use Rattle.js_tree.specs.Tree
 use Rattle.js_grammar.specs.declared.form.Form.{Form}
 use Rattle.js_grammar.specs.declared.form.Limits.{Limits}
@@ -143,3 +143,10 @@ stub = word w.Function false ∷ name (codes "g") false ∷ mark m.OpenParenthes
 
 abbrev pub stub_tree : Script
 stub_tree = Tree.MoreStmts (Tree.Declare (code (Some (codes "g")) ([]) (Tree.MoreStmts (Tree.Return (Tree.AnExpr (Tree.Call (Tree.Dot (Tree.Late 2) (codes "apply")) (Tree.MoreExprs Tree.This (Tree.MoreExprs (Tree.Ident (codes "arguments")) Tree.NoExprs))))) Tree.NoStmts))) Tree.NoStmts
+
+-- the function of `(function(){host.out("two");})`
+abbrev pub entry : Func
+entry = code None [] (Tree.MoreStmts (Tree.Do (Tree.Call (Tree.Dot (Tree.Ident (codes "host")) (codes "out")) (Tree.MoreExprs (Tree.Str (codes "two")) Tree.NoExprs))) Tree.NoStmts)
+
+abbrev pub entry_body : Stmts
+entry_body = Tree.MoreStmts (Tree.Do (Tree.Call (Tree.Dot (Tree.Ident (codes "host")) (codes "out")) (Tree.MoreExprs (Tree.Str (codes "two")) Tree.NoExprs))) Tree.NoStmts

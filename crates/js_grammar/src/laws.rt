@@ -81,3 +81,18 @@ pub fn brackets_are_closed()
 pub fn one_tree_of_a_token()
     ensures { law.OneTreeOfAToken }
 {}
+
+/// At most one tree is derived from a list of tokens.
+pub fn one_tree()
+    ensures { law.OneTree }
+{}
+
+/// Nothing is told of tokens that are an accepted script.
+pub fn accepted_has_no_fault()
+    ensures { law.AcceptedHasNoFault }
+{}
+
+/// Where a script breaks a limit, one of its statements and declarations is the first in which it does.
+pub fn limits_break_in_a_statement()
+    ensures { law.LimitsBreakInAStatement }
+{}

@@ -12,9 +12,10 @@ mod rows;
 
 pub use form::{Construct, Form, Limits};
 pub use laws::{
-    brackets_are_closed, else_is_of_the_nearest_if, functions_are_counted, have_tokens,
-    in_is_in_parentheses, in_may_be_allowed, levels_go_down, none_is_inserted_where_the_next_fits,
-    one_breaking_token, one_list_of_formals, one_tree_of_a_token, printed_tokens_read_back,
+    accepted_has_no_fault, brackets_are_closed, else_is_of_the_nearest_if, functions_are_counted,
+    have_tokens, in_is_in_parentheses, in_may_be_allowed, levels_go_down,
+    limits_break_in_a_statement, none_is_inserted_where_the_next_fits, one_breaking_token,
+    one_list_of_formals, one_tree, one_tree_of_a_token, printed_tokens_read_back,
     scripts_do_not_break, targets_rise, tokens_are_placed,
 };
-pub use rows::{accepted_texts, refused_texts, told_tokens};
+pub use rows::{accepted_texts, refused_texts, told_tokens, written_parts};

@@ -9,6 +9,7 @@ ghost use Rattle.js_grammar.specs.Accepted.{Accepted, source_limits, written_lim
 ghost use Rattle.js_grammar.specs.Symbols.{symbols};
 ghost use Rattle.js_grammar.specs.declared.form.Construct.TheVariants as c;
 ghost use Rattle.js_grammar.specs.Fault.{Fault, Syntax, Refused, TooDeep, TooMany};
+ghost use Rattle.js_grammar.specs.PrintedText.{body_text, entry_text, func_text};
 ghost use Rattle.js_grammar.specs.Rows as rows;
 ghost use Rattle.js_grammar.specs.RefusedRows as refused;
 ghost use Rattle.js_grammar.specs.RefusedRows.{place};
@@ -45,6 +46,11 @@ pub fn refused_texts()
     ensures nots_refused { Fault Source (source_limits 65535) (refused.nots 399 0) (TooDeep (place 1 1)) }
     ensures spent { Fault Source refused.one_bracket refused.brackets (TooDeep (place 1 1)) }
     ensures not_only_spent { Fault Source refused.one_bracket refused.brackets (Refused (place 1 3) c.With) }
+    ensures regular_expression { Fault Source (source_limits 65535) refused.regular_expression (Refused (place 1 3) c.RegExp) }
+    ensures function_in_if { Fault Source (source_limits 65535) refused.function_in_if (Refused (place 1 6) c.FunctionPlace) }
+    ensures eval_called { Fault Source (source_limits 65535) refused.eval_called (Refused (place 1 3) c.Eval) }
+    ensures callee_read { Fault Source (source_limits 65535) refused.callee_read (Refused (place 1 3) c.Callee) }
+    ensures arguments_declared { Fault Source (source_limits 65535) refused.arguments_declared (Refused (place 1 5) c.Arguments) }
 {}
 
 /// What is told of a token behind `function f(a`, where it is the breaking one.
@@ -66,4 +72,11 @@ pub fn told_tokens()
     ensures later_word_is { refused.told (k.Word w.Class) ≡ Syntax (place 1 1) }
     ensures other_name_is { refused.told (k.Name (codes "b")) ≡ Syntax (place 1 1) }
     ensures end_is { refused.told k.End ≡ Syntax (place 1 1) }
+{}
+
+/// What a function, its body and its entry are written as.
+pub fn written_parts()
+    ensures function_text { func_text rows.entry ≡ codes "function(){host.out(\"two\");}" }
+    ensures of_body { body_text rows.entry_body ≡ codes "host.out(\"two\");" }
+    ensures of_entry { entry_text rows.entry ≡ codes "(function(){host.out(\"two\");})" }
 {}

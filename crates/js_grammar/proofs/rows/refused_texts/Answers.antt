@@ -24,3 +24,18 @@ returns-clause-spent c = worked.spent
 
 pub returns-clause-not_only_spent : goal.returns-clause-not_only_spent
 returns-clause-not_only_spent c = worked.not_only_spent
+
+pub returns-clause-regular_expression : goal.returns-clause-regular_expression
+returns-clause-regular_expression c = worked.regular_expression
+
+pub returns-clause-function_in_if : goal.returns-clause-function_in_if
+returns-clause-function_in_if c = worked.function_in_if
+
+pub returns-clause-eval_called : goal.returns-clause-eval_called
+returns-clause-eval_called c = worked.eval_called
+
+pub returns-clause-callee_read : goal.returns-clause-callee_read
+returns-clause-callee_read c = worked.callee_read
+
+pub returns-clause-arguments_declared : goal.returns-clause-arguments_declared
+returns-clause-arguments_declared c = worked.arguments_declared
