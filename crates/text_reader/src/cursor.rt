@@ -1,4 +1,4 @@
-ghost use Rattle.std.specs.Prelude.{◌≡◌, ◌∷◌, ◌+◌, ◌≤◌, ℕ, Bool, MatchBool, Some, None, length};
+ghost use Rattle.std.specs.Prelude.{◌≡◌, ◌∷◌, ◌+◌, ◌≤◌, ℕ, Bool, MatchBool, IfErr, Some, None, length};
 ghost use Rattle.std.specs.List.{prefix_len};
 ghost use Rattle.text_reader.specs.Reader as reader;
 ghost use Rattle.text_reader.specs.Gives.{Gives, Eats, Decides};
@@ -102,7 +102,8 @@ impl<'a> Cursor<'a> {
 
     /// Takes these bytes, which have to come next.
     pub fn skip(&mut self, front: &[u8]) -> Result<(), Refusal>
-        ensures { Gives (reader.skip front.now self.old) result self.new }
+        ensures gives { Gives (reader.skip front.now self.old) result self.new }
+        ensures needs_no_memory { IfErr result (λ e. e ≡ Refusal.NotOfForm) }
     {
         if self.eat(front) {
             Ok(())
@@ -115,7 +116,8 @@ impl<'a> Cursor<'a> {
     #[tactic(auto, unfolding(crate::specs::Reader::one))]
     pub fn one<F: Fn(u8) -> bool>(&mut self, passes: F) -> Result<u8, Refusal>
         requires { F.IsAlwaysCallable passes }
-        ensures { (test : ℕ → Bool) → Decides (F.post passes) test → Gives (reader.one test self.old) result self.new }
+        ensures gives { (test : ℕ → Bool) → Decides (F.post passes) test → Gives (reader.one test self.old) result self.new }
+        ensures needs_no_memory { IfErr result (λ e. e ≡ Refusal.NotOfForm) }
     {
         if let [first, rest @ ..] = self.rest {
             if passes(*first) {
@@ -141,7 +143,8 @@ impl<'a> Cursor<'a> {
     /// Takes a decimal number below 2^32 with no zero in front of other digits.
     #[tactic(auto, unfolding(crate::specs::Reader::decimal))]
     pub fn decimal(&mut self) -> Result<u32, Refusal>
-        ensures { Gives (reader.decimal self.old) result self.new }
+        ensures gives { Gives (reader.decimal self.old) result self.new }
+        ensures needs_no_memory { IfErr result (λ e. e ≡ Refusal.NotOfForm) }
     {
         let digits = self.run(numeral::is_digit);
         numeral::number_of(digits).ok_or(Refusal::NotOfForm)
