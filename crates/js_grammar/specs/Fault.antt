@@ -44,11 +44,12 @@ pub data Answer : Type 0 where
   TooDeep : Place → Answer
   TooMany : Place → Answer
 
--- names with commas between, or without, among them this one
+-- a token of this name
 abbrev pub names_it : Name → TokenKind → Bool
 names_it n (k.Name o) = is_spelled n o
 names_it n _ = false
 
+-- a token that may stand in a list of formals
 abbrev pub lists_names : TokenKind → Bool
 lists_names (k.Name o) = true
 lists_names (k.Mark m.Comma) = true
