@@ -7,8 +7,8 @@ use Rattle.js_tree.specs.Tree.{Script}
 use Rattle.play.specs.Played.{Answer, Answered, Gives, played_page, for_page_file}
 use Rattle.play.specs.Headline.{PutsBackTo, ShowsOriginal}
 use Rattle.play.specs.Laziness.{ShowsLoads}
-use Rattle.play.proofs.Headlines.{played_shows, played_loads}
-use Rattle.play.specs.Answers.{Names}
+use Rattle.play.proofs.HeadlineLemmas.{played_shows, played_loads}
+use Rattle.dl_ports.specs.Stores.{AskedNames}
 use Rattle.doloto_app.specs.declared.status.Status.{Status}
 use Rattle.doloto_app.specs.declared.status.Status.TheVariants.{Ended, Words, Refused, OutOfSteps, ReadFault, WriteFault, OutOfMemory, Missing}
 use Rattle.doloto_app.specs.declared.status.Refusal.TheVariants.{First}
@@ -17,7 +17,7 @@ use Rattle.doloto_app.specs.Ends.{Taken, Ends, WritesOriginal, WritesLoads, stat
 same_end : {a : Answer} {r q : List ℕ} {d e : End} → a ≡ Gives r d → a ≡ Gives q e → status_of_end d ≡ status_of_end e
 same_end h k = let s = sym h ∙ k in cc
 
-pub is_complete : (r : Answered) (asked asked_now : Names) (taken taken_now : Taken) (result : Status) (report : List ℕ) (e : End) → Ends r asked asked_now taken taken_now result → r.answer ≡ Gives report e
+pub is_complete : (r : Answered) (asked asked_now : AskedNames) (taken taken_now : Taken) (result : Status) (report : List ℕ) (e : End) → Ends r asked asked_now taken taken_now result → r.answer ≡ Gives report e
     → (result ≡ ReadFault → ⊥) → (result ≡ WriteFault → ⊥) → (result ≡ status_of_end e) ⊎ (result ≡ OutOfMemory)
 is_complete r asked asked_now taken taken_now Ended report e h a f w = inl (same_end h.answer_is a)
 is_complete r asked asked_now taken taken_now (Words fault) report e h a f w = absurd h
@@ -43,7 +43,7 @@ page_loads files folder name n script p report e h = by (files name) h
     by (Some page) h = played_loads files folder page n script p report e h
 
 -- what is written is a report that shows the original, and its loads
-module _ (files : Files) (folder name : List ℕ) (n : ℕ) (script : Script) (asked asked_now : Names) (taken taken_now : Taken) where
+module _ (files : Files) (folder name : List ℕ) (n : ℕ) (script : Script) (asked asked_now : AskedNames) (taken taken_now : Taken) where
   pub writes_original : (result : Status) → PutsBackTo files folder script → Ends (played_page files folder name n) asked asked_now taken taken_now result → WritesOriginal taken taken_now script n result
   writes_original Ended p h = record { report = h.report; written = h.written; shows = page_shows files folder name n script p h.report end.Ended h.answer_is }
   writes_original (Words fault) p h = tt

@@ -14,7 +14,7 @@ use Rattle.play.specs.declared.manifest.Manifest.{Manifest}
 use Rattle.play.specs.Headline.{ShowsOriginal}
 use Rattle.play.specs.Laziness.{ShowsLoads}
 use Rattle.play.specs.Played.{Answered, Gives, Lacks, Refuses}
-use Rattle.play.specs.Answers.{Names, and_names, AsksFront}
+use Rattle.dl_ports.specs.Stores.{AskedNames, and_names, AsksFront}
 use Rattle.doloto_app.specs.declared.status.Status.{Status}
 use Rattle.doloto_app.specs.declared.status.Status.TheVariants.{Ended, Words, Refused, OutOfSteps, ReadFault, WriteFault, OutOfMemory, Missing}
 use Rattle.doloto_app.specs.declared.status.Refusal.TheVariants.{First}
@@ -57,14 +57,14 @@ abbrev pub Taken : Type 0
 Taken = Option (List ℕ)
 
 -- the whole report was written, and its end is this one
-pub record Reported (r : Answered) (asked asked_now : Names) (taken taken_now : Taken) (e : End) : Type 0 where
+pub record Reported (r : Answered) (asked asked_now : AskedNames) (taken taken_now : Taken) (e : End) : Type 0 where
   pub report : List ℕ
   pub answer_is : r.answer ≡ Gives report e
   pub asked_is : asked_now ≡ and_names asked r.asked
   pub written : taken_now ≡ and_more taken report
 
 -- a front of the report was written
-pub record Broken (r : Answered) (asked asked_now : Names) (taken taken_now : Taken) : Type 0 where
+pub record Broken (r : Answered) (asked asked_now : AskedNames) (taken taken_now : Taken) : Type 0 where
   pub report : List ℕ
   pub e : End
   pub answer_is : r.answer ≡ Gives report e
@@ -72,7 +72,7 @@ pub record Broken (r : Answered) (asked asked_now : Names) (taken taken_now : Ta
   pub written : WritesPart taken report taken_now
 
 -- a status has its cause in what is to be answered, and says what was asked and written
-abbrev pub Ends : Answered → Names → Names → Taken → Taken → Status → Type 0
+abbrev pub Ends : Answered → AskedNames → AskedNames → Taken → Taken → Status → Type 0
 Ends r asked asked_now taken taken_now Ended = Reported r asked asked_now taken taken_now end.Ended
 Ends r asked asked_now taken taken_now (Words fault) = ⊥
 Ends r asked asked_now taken taken_now (Refused (First file)) = (r.answer ≡ Refuses file) × (asked_now ≡ and_names asked r.asked) × (taken_now ≡ taken)

@@ -6,9 +6,9 @@ pub mod Manifest
 pub mod ManifestReader
 pub mod Site
 pub mod PutBack
+pub mod Report
 pub mod Loader
 pub mod Walk
-pub mod Report
 pub mod Played
 pub mod Rows
 pub mod Machine

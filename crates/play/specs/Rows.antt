@@ -11,7 +11,8 @@ use Rattle.play.specs.Site.{site_tree, late_function}
 use Rattle.play.specs.PutBack.{back}
 use Rattle.js_parser.specs.First.{out_name}
 use Rattle.play.specs.Value.{ShownText, ShownObject}
-use Rattle.play.specs.Loader.{fresh, CallLine, UncaughtLine, IdleLine, WaitLine, AskLine, HereLine}
+use Rattle.play.specs.Report.{CallLine, UncaughtLine, IdleLine, WaitLine, AskLine, HereLine}
+use Rattle.play.specs.Loader.{fresh}
 use Rattle.play.specs.Walk.{Ended, end_of, walk}
 use Rattle.play.specs.Laws.{seen}
 use Rattle.play.specs.Laziness.{lazy_lines}

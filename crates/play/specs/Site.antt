@@ -1,5 +1,5 @@
 -- The site as its files give it: the manifest, the script's tree, and the entries of the clusters whose files are accepted.
-use Rattle.std.specs.Prelude.{ℕ, suc, List, [], ◌∷◌, ◌++◌, length, map, Option, Some, None, is_some, cond, nat_eq, Bool, ◌&&◌, codes}
+use Rattle.std.specs.Prelude.{◌≡◌, ℕ, suc, true, List, [], ◌∷◌, ◌++◌, length, map, Option, Some, None, is_some, cond, nat_eq, Bool, ◌&&◌, codes}
 use Rattle.std.specs.Str.{bytes_eq}
 use Rattle.std.specs.List.{list_any, list_all}
 use Rattle.std.specs.Fmt.{decimal}
@@ -84,6 +84,11 @@ line_of (c ∷ cs) k = cond (list_any (nat_eq k) c.entries) (Some c) (line_of cs
 
 abbrev pub is_listed : List ClusterLine → ℕ → Bool
 is_listed cs k = is_some (line_of cs k)
+
+-- each stub is that of an entry, and there are as many plain functions as the manifest has numbers for
+pub record Fits (m : Manifest) (items : List FirstItem) : Type 0 where
+  pub listed : list_all (is_listed m.clusters) (stub_numbers items) ≡ true
+  pub plain : plain_count items ≡ length m.plain
 
 abbrev pub items_of : Manifest → Option FirstScript → Option (List FirstItem)
 items_of m None = None

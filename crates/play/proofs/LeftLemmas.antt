@@ -13,15 +13,15 @@ use Rattle.play.specs.Run.{State, Called, Uncaught, Idle, Entered, Needed, Trace
 use Rattle.play.specs.Site.{line_of, ClusterFile}
 use Rattle.play.specs.Manifest.{Rises, cluster_numbers}
 use Rattle.play.specs.Loader
-use Rattle.play.specs.Loader.{Line, CallLine, UncaughtLine, IdleLine, AskLine, HereLine, status_of, to_ask, is_absent, is_asked}
+use Rattle.play.specs.Report.{Line, CallLine, UncaughtLine, IdleLine, AskLine, HereLine, line_text, lines_text, ended_text, out_of_steps_text}
+use Rattle.play.specs.Loader.{status_of, to_ask, is_absent, is_asked}
 use Rattle.play.specs.Walk.{Ended, RanOut, Broke, walk, end_of, request, requested}
-use Rattle.play.specs.Report.{line_text, lines_text, ended_text, out_of_steps_text}
-use Rattle.play.specs.Played.{Answered, Gives, Ending, Reports, LacksFile, RefusesFile, with_line, reads, cluster_of, cluster_names, cluster_number}
+use Rattle.play.specs.Played.{Answered, Gives, Walked, Reports, LacksFile, RefusesFile, with_line, reads, cluster_of, cluster_names, cluster_number}
 use Rattle.play.specs.Machine.{status, statuses, loader_of, answer_after, left_for}
-use Rattle.play.proofs.Steps.{RanOutAt}
+use Rattle.play.proofs.StepLemmas.{RanOutAt}
 
 -- a line of the report
-pub answer_line : (folder report : List ℕ) (line : Line) (e : Ending) → answer_after folder report (with_line line e) ≡ answer_after folder (report ++ line_text line) e
+pub answer_line : (folder report : List ℕ) (line : Line) (e : Walked) → answer_after folder report (with_line line e) ≡ answer_after folder (report ++ line_text line) e
 answer_line folder report line (Reports lines (Ended n)) =
     ap (λ text. Gives text end.Ended) (ap (λ more. report ++ more) (append_assoc (line_text line) (lines_text lines) (ended_text n)) ∙ sym (append_assoc report (line_text line) (lines_text lines ++ ended_text n)))
 answer_line folder report line (Reports lines (RanOut n)) =
@@ -58,7 +58,7 @@ mapped_at (d ∷ ds) zero c h = let e : d ≡ c = cc in ap (λ c. Some c.cluster
 mapped_at (d ∷ ds) (suc i) c h = mapped_at ds i c h
 
 -- where the window is none, nothing is asked for in the background
-pub asks_none : (tb : Loader.Table) → to_ask 0 tb ≡ []
+pub asks_none : (tb : Loader.Statuses) → to_ask 0 tb ≡ []
 asks_none tb = ap (λ n. take n (map (λ p. p.0) (filter (λ p. is_absent p.1) tb))) none
   where
     none : 0 - count_by (λ p. is_asked p.1) tb ≡ 0

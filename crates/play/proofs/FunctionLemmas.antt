@@ -18,8 +18,8 @@ use Rattle.play.specs.declared.table.Function.{Function}
 use Rattle.play.specs.Program.{declared}
 use Rattle.play.specs.Site.{site_tree, numbered, numbers_after, others_of, is_listed, stub_numbers, plain_count, with_plain, with_stub}
 use Rattle.play.specs.Machine.{func_of, BodyIs, BodiesAre}
-use Rattle.play.proofs.Lists.{passed_one}
-use Rattle.play.proofs.Tables.{none_some, some_one}
+use Rattle.play.proofs.ListLemmas.{passed_one}
+use Rattle.play.proofs.TableLemmas.{none_some, some_one}
 
 drop_at : (xs : List FirstItem) (i : ℕ) (x : FirstItem) → slice_get xs i ≡ Some x → drop i xs ≡ x ∷ drop (i + 1) xs
 drop_at [] i x h = absurd (none_some h)

@@ -12,15 +12,15 @@ use Rattle.play.specs.Run.{Entered, Trace, Say}
 use Rattle.play.specs.Site.{line_of, ClusterFile, Absent, Refused, Accepted, cluster_name, cluster_file}
 use Rattle.play.specs.Manifest.{Rises, cluster_numbers}
 use Rattle.play.specs.Loader
-use Rattle.play.specs.Loader.{Line, WaitLine, AskLine, HereLine, Moved, status_of, with_status}
+use Rattle.play.specs.Report.{Line, WaitLine, AskLine, HereLine, line_text}
+use Rattle.play.specs.Loader.{Moved, status_of, with_status}
 use Rattle.play.specs.Walk
 use Rattle.play.specs.Walk.{RunEnd, Ended, RanOut, Broke, walk, end_of, request, requested}
-use Rattle.play.specs.Report.{line_text}
 use Rattle.play.specs.Played
 use Rattle.play.specs.Played.{Answered, Lacks, Refuses, reads, cluster_of, cluster_names, cluster_number, file_by, file_of}
 use Rattle.play.specs.Machine.{status, statuses, loader_of, answer_after, arrived_report, left_for, with_entries, IsSound}
-use Rattle.play.proofs.Lefts.{answer_line, above, same_number, other_number, mapped_at, status_at, left_here}
-use Rattle.play.proofs.Tables.{none_some, some_one}
+use Rattle.play.proofs.LeftLemmas.{answer_line, above, same_number, other_number, mapped_at, status_at, left_here}
+use Rattle.play.proofs.TableLemmas.{none_some, some_one}
 
 -- ---- the table of statuses
 
@@ -36,7 +36,7 @@ set_status before (d ∷ ds) (l ∷ ls) (suc i) c o es r h q =
     ∙ sym (ap (λ b. cond b ((d.cluster, Loader.Here) ∷ statuses ds ls) ((d.cluster, status l) ∷ with_status (statuses ds ls) c.cluster Loader.Here))
     (other_number d.cluster c.cluster (above d.cluster (cluster_numbers ds) i c.cluster r.1 (mapped_at ds i c h))))
 
-set_again : (tb : Loader.Table) (c : ℕ) (a b : Loader.Status) → with_status (with_status tb c a) c b ≡ with_status tb c b
+set_again : (tb : Loader.Statuses) (c : ℕ) (a b : Loader.Status) → with_status (with_status tb c a) c b ≡ with_status tb c b
 set_again [] c a b = refl
 set_again (p ∷ ps) c a b = by (nat_eq p.0 c) refl (set_again ps c a b)
   where
@@ -85,7 +85,7 @@ abbrev pub arrival_lines : ℕ → List Line
 arrival_lines c = WaitLine c ∷ AskLine c ∷ HereLine c ∷ []
 
 module _ (t : Table) (place : ℕ) (c : ClusterLine) (es : List Entry) (sound : IsSound t) (line_at : slice_get t.manifest.clusters place ≡ Some c) (absent : slice_get t.loaded place ≡ Some None) where
-  tb : Loader.Table
+  tb : Loader.Statuses
   tb = statuses t.manifest.clusters t.loaded
 
   request_is : request (loader_of t) (Some c.cluster) ≡ record { loader = loader_of (with_entries t place es); lines = arrival_lines c.cluster }
@@ -142,7 +142,7 @@ module _ (t : Table) (place : ℕ) (c : ClusterLine) (es : List Entry) (sound : 
         ∙ answer_line folder ((report ++ line_text (WaitLine c.cluster)) ++ line_text (AskLine c.cluster)) (HereLine c.cluster) ending))
         ∙ ap (Played.after_name (cluster_name folder c.cluster)) (sym (left_here folder file (with_entries t place es) (arrived_report report c.cluster) k b i rest c listed here))))
       where
-        ending : Played.Ending
+        ending : Played.Walked
         ending = reads file (walk (cluster_of t.manifest) (loader_of (with_entries t place es)) rest) (end_of rest)
 
         here : status_of (statuses t.manifest.clusters (slice_set t.loaded place (Some es))) c.cluster ≡ Loader.Here

@@ -13,12 +13,13 @@ use Rattle.play.specs.declared.outcome.FirstFile.{FirstFile}
 use Rattle.play.specs.Played.{Gives, Lacks, Refuses, Answered, after_name, file_of}
 use Rattle.play.specs.Site.{entries}
 use Rattle.play.specs.Machine.{Keeps, Ends}
-use Rattle.play.specs.Answers.{Names, and_names, AsksFront, ErrorMeets, Meets, NeedFails, Loads, Ahead, site_left, SiteAgrees}
-use Rattle.play.proofs.Loads.{front_none, one_name, front_one, front_either}
+use Rattle.dl_ports.specs.Stores.{AskedNames, and_names, AsksFront}
+use Rattle.play.specs.Answers.{ErrorMeets, Meets, NeedFails, Loads, Ahead, site_left, SiteAgrees}
+use Rattle.play.proofs.LoadLemmas.{front_none, one_name, front_one, front_either}
 
 -- ---- names
 
-and_more : (asked : Names) (xs ys : List (List ℕ)) → and_names (and_names asked xs) ys ≡ and_names asked (xs ++ ys)
+and_more : (asked : AskedNames) (xs ys : List (List ℕ)) → and_names (and_names asked xs) ys ≡ and_names asked (xs ++ ys)
 and_more None xs ys = refl
 and_more (Some before) xs ys = ap Some (append_assoc before xs ys)
 
@@ -29,7 +30,7 @@ take_more (x ∷ xs) ys k =
     ap (λ n. take n (x ∷ (xs ++ ys))) z ∙ ap (λ l. x ∷ l) (take_more xs ys k)
 
 -- a front of the rest, after all of the names before it
-front_on : (before now later : Names) (names rest whole : List (List ℕ)) → now ≡ and_names before names → names ++ rest ≡ whole → AsksFront now later rest → AsksFront before later whole
+front_on : (before now later : AskedNames) (names rest whole : List (List ℕ)) → now ≡ and_names before names → names ++ rest ≡ whole → AsksFront now later rest → AsksFront before later whole
 front_on before now later names rest whole asked w h = (
   length names + h.0,
   h.1 ∙ (ap (λ z. and_names z (take h.0 rest)) asked
@@ -38,17 +39,17 @@ front_on before now later names rest whole asked w h = (
       ∙ ap (λ w. and_names before (take (length names + h.0) w)) w))),
 )
 
-all_on : (before now later : Names) (names rest whole : List (List ℕ)) → now ≡ and_names before names → names ++ rest ≡ whole → later ≡ and_names now rest → later ≡ and_names before whole
+all_on : (before now later : AskedNames) (names rest whole : List (List ℕ)) → now ≡ and_names before names → names ++ rest ≡ whole → later ≡ and_names now rest → later ≡ and_names before whole
 all_on before now later names rest whole asked w h =
     h ∙ (ap (λ z. and_names z rest) asked ∙ (and_more before names rest ∙ ap (and_names before) w))
 
 -- ---- a run that is under way
 
-module _ (files : Files) (folder : List ℕ) (whole : Answered) (before now : Names) (t : Table) (m : Machine) (a : Ahead files folder whole before now t m) where
+module _ (files : Files) (folder : List ℕ) (whole : Answered) (before now : AskedNames) (t : Table) (m : Machine) (a : Ahead files folder whole before now t m) where
   pub ahead_memory : AsksFront before now whole.asked
   ahead_memory = front_on before now now a.names (site_left files folder t m).asked whole.asked a.asked_is a.rest_is (front_none now (site_left files folder t m).asked)
 
-  pub ahead_refused : (later : Names) (e : FirstError) → ErrorMeets (site_left files folder t m) now later e → ErrorMeets whole before later e
+  pub ahead_refused : (later : AskedNames) (e : FirstError) → ErrorMeets (site_left files folder t m) now later e → ErrorMeets whole before later e
   ahead_refused later ReadFault h = front_on before now later a.names (site_left files folder t m).asked whole.asked a.asked_is a.rest_is h
   ahead_refused later (Missing name) h = (sym a.answer_is ∙ h.0, all_on before now later a.names (site_left files folder t m).asked whole.asked a.asked_is a.rest_is h.1)
   ahead_refused later (First file) h = (sym a.answer_is ∙ h.0, all_on before now later a.names (site_left files folder t m).asked whole.asked a.asked_is a.rest_is h.1)
@@ -65,7 +66,7 @@ module _ (files : Files) (folder : List ℕ) (whole : Answered) (before now : Na
         agrees = a.agrees;
       }
 
-  pub ahead_loaded : (new : Table) (moved : Machine) (later : Names) → Loads files folder t new m moved now later → Ahead files folder whole before later new moved
+  pub ahead_loaded : (new : Table) (moved : Machine) (later : AskedNames) → Loads files folder t new m moved now later → Ahead files folder whole before later new moved
   ahead_loaded new moved later l = record {
     names = a.names ++ l.name ∷ [];
     asked_is = l.asked_is ∙ (ap (λ z. and_names z (l.name ∷ [])) a.asked_is ∙ and_more before a.names (l.name ∷ []));
@@ -83,7 +84,7 @@ module _ (files : Files) (folder : List ℕ) (whole : Answered) (before now : Na
       )
   ahead_ended new text e (Err x) ends f memory = subst (ErrorMeets whole before now) (sym memory) ahead_memory
 
-pub ahead_first : (files : Files) (folder : List ℕ) (asked : Names) (t : Table) (m : Machine) → SiteAgrees files folder t → Ahead files folder (site_left files folder t m) asked asked t m
+pub ahead_first : (files : Files) (folder : List ℕ) (asked : AskedNames) (t : Table) (m : Machine) → SiteAgrees files folder t → Ahead files folder (site_left files folder t m) asked asked t m
 ahead_first files folder asked t m ag = record {
   names = [];
   asked_is = none asked;
@@ -92,15 +93,15 @@ ahead_first files folder asked t m ag = record {
   agrees = ag;
 }
   where
-    none : (asked : Names) → asked ≡ and_names asked []
+    none : (asked : AskedNames) → asked ≡ and_names asked []
     none None = refl
     none (Some before) = ap Some (sym (append-nil before))
 
 -- ---- a file, and what comes after it
 
-module _ (name : List ℕ) (before now : Names) where
+module _ (name : List ℕ) (before now : AskedNames) where
   -- the file was read
-  pub after_meets : (r : Answered) (later : Names) (result : Result Outcome FirstError) → now ≡ and_name before name → Meets r now later result → Meets (after_name name r) before later result
+  pub after_meets : (r : Answered) (later : AskedNames) (result : Result Outcome FirstError) → now ≡ and_name before name → Meets r now later result → Meets (after_name name r) before later result
   after_meets r later (Ok o) h m = (m.0, all_on before now later (name ∷ []) r.asked (name ∷ r.asked) (h ∙ one_name before name) refl m.1)
   after_meets r later (Err ReadFault) h m = front_on before now later (name ∷ []) r.asked (name ∷ r.asked) (h ∙ one_name before name) refl m
   after_meets r later (Err (Missing missing)) h m = (m.0, all_on before now later (name ∷ []) r.asked (name ∷ r.asked) (h ∙ one_name before name) refl m.1)

@@ -5,8 +5,7 @@ use Rattle.std.specs.Fmt.{digits}
 use Rattle.dl_text.specs.Quote.{quoted_unit}
 use Rattle.js_parser.specs.First.{out_name}
 use Rattle.play.specs.Value.{ShownText, ShownObject}
-use Rattle.play.specs.Loader.{CallLine, UncaughtLine, IdleLine}
-use Rattle.play.specs.Report.{line_text}
+use Rattle.play.specs.Report.{CallLine, UncaughtLine, IdleLine, line_text}
 
 closes : (xs : List ℕ) → ((xs ++ 34 ∷ []) ++ []) ++ 10 ∷ [] ≡ xs ++ (34 ∷ 10 ∷ [])
 closes xs = ap (λ ys. ys ++ 10 ∷ []) (append-nil (xs ++ 34 ∷ [])) ∙ append_assoc xs (34 ∷ []) (10 ∷ [])

@@ -8,7 +8,7 @@ use Rattle.js_tree.specs.declared.tree.Role.TheVariants.{Plain, Stub, Late}
 use Rattle.js_parser.specs.First.{host_name, out_name, arguments_name, apply_name, stub_tree}
 use Rattle.js_parser.specs.declared.first.FirstStatement.{FirstStatement}
 use Rattle.js_parser.specs.declared.first.FirstStatement.TheVariants.{Call, Out}
-use Rattle.play.specs.declared.table.Place.{Place}
+use Rattle.play.specs.declared.table.Continuation.{Continuation}
 use Rattle.play.specs.declared.table.Frame.{Frame}
 use Rattle.play.specs.declared.table.Frame.TheVariants as frame
 use Rattle.play.specs.Value.{Value, Undefined, Host, Closure, Error, NoValues, GlobalScope, Normal, Thrown, ShownText, shown, passed_with}
@@ -75,10 +75,10 @@ module _ (e : ℕ → Option Func) where
   pub ends : (left d : ℕ) (s : State) → trace_at e left [] d [] s ≡ Say (Idle s.beats) s.steps (End (Normal Undefined) s)
   ends left d s = refl
 
-  pub leaves_call : (left d : ℕ) (fs : List Frame) (p : Place) (s : State) → trace_at e left [] d (fs ++ frame.Call p ∷ []) s ≡ trace_at e left p.rest p.depth fs s
+  pub leaves_call : (left d : ℕ) (fs : List Frame) (p : Continuation) (s : State) → trace_at e left [] d (fs ++ frame.Call p ∷ []) s ≡ trace_at e left p.rest p.depth fs s
   leaves_call left d fs p s = ap (λ ks. run e left (Ret (Normal Undefined)) ks s) (stack_last fs (frame.Call p))
 
-  pub leaves_late : (left d : ℕ) (fs : List Frame) (p : Place) (s : State) → trace_at e left [] d (fs ++ frame.Late p ∷ []) s ≡ trace_at e left p.rest p.depth fs s
+  pub leaves_late : (left d : ℕ) (fs : List Frame) (p : Continuation) (s : State) → trace_at e left [] d (fs ++ frame.Late p ∷ []) s ≡ trace_at e left p.rest p.depth fs s
   leaves_late left d fs p s = ap (λ ks. run e left (Ret (Normal Undefined)) ks s) (stack_last fs (frame.Late p))
 
   -- ---- a call

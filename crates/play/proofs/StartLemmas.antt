@@ -21,13 +21,13 @@ use Rattle.play.specs.Loader
 use Rattle.play.specs.Loader.{fresh}
 use Rattle.play.specs.Walk.{Ended, RanOut, Broke, walk, end_of}
 use Rattle.play.specs.Manifest.{cluster_numbers}
-use Rattle.play.specs.Played.{Answered, Ending, Reports, LacksFile, RefusesFile, reads, cluster_of, cluster_names, file_of, answer_of, for_script, site_run}
+use Rattle.play.specs.Played.{Answered, Walked, Reports, LacksFile, RefusesFile, reads, cluster_of, cluster_names, file_of, answer_of, for_script, site_run}
 use Rattle.play.specs.Tables.{statements_of, Builds}
 use Rattle.play.specs.Machine.{func_of, statuses, answer_after, begun, trace_of}
 use Rattle.play.specs.Answers.{site_left, SiteAgrees}
-use Rattle.play.proofs.Tables.{none_some}
+use Rattle.play.proofs.TableLemmas.{none_some}
 
-answer_same : (folder : List ℕ) (e : Ending) → answer_of folder e ≡ answer_after folder [] e
+answer_same : (folder : List ℕ) (e : Walked) → answer_of folder e ≡ answer_after folder [] e
 answer_same folder (Reports lines (Ended n)) = refl
 answer_same folder (Reports lines (RanOut n)) = refl
 answer_same folder (Reports lines Broke) = refl

@@ -9,7 +9,8 @@ use Rattle.play.specs.declared.manifest.ClusterLine.{ClusterLine}
 use Rattle.play.specs.declared.manifest.Manifest.{Manifest}
 use Rattle.play.specs.Run.{Mark, Called, Uncaught, Idle, Entered, Needed, Trace}
 use Rattle.play.specs.Loader
-use Rattle.play.specs.Loader.{Line, CallLine, UncaughtLine, IdleLine, WaitLine, AskLine, HereLine, Moved, stays, moves, fresh, status_of, with_status, effect, needed, arrived, fills, step, ask_all, to_ask, is_absent}
+use Rattle.play.specs.Report.{Line, CallLine, UncaughtLine, IdleLine, WaitLine, AskLine, HereLine}
+use Rattle.play.specs.Loader.{Moved, stays, moves, fresh, status_of, with_status, effect, needed, arrived, fills, step, ask_all, to_ask, is_absent}
 use Rattle.play.specs.Walk.{walk, request, requested, arrives, after_need, idles}
 use Rattle.play.specs.Site.{line_of}
 use Rattle.play.specs.Manifest.{cluster_numbers}
@@ -17,13 +18,13 @@ use Rattle.play.specs.Played.{cluster_number, cluster_of, site_lines}
 use Rattle.play.specs.Laws
 use Rattle.play.specs.Laws.{seen, NeedsFollow, IsPrefix}
 use Rattle.play.specs.Laziness.{waits_for, wait_lines, and_come, lazy_lines}
-use Rattle.play.proofs.Lefts.{same_number, asks_none}
-use Rattle.play.proofs.Tables.{none_some, some_one}
+use Rattle.play.proofs.LeftLemmas.{same_number, asks_none}
+use Rattle.play.proofs.TableLemmas.{none_some, some_one}
 
 -- ---- tables
 
 -- a cluster stands in a table
-abbrev has : Loader.Table → ℕ → Bool
+abbrev has : Loader.Statuses → ℕ → Bool
 has [] c = false
 has (p ∷ ps) c = cond (nat_eq p.0 c) true (has ps c)
 
@@ -34,7 +35,7 @@ found n m x y h = ap (λ b. cond b x y) h
 not_found : {A : Type 0} (n m : ℕ) (x y : A) → nat_eq n m ≡ false → cond (nat_eq n m) x y ≡ y
 not_found n m x y h = ap (λ b. cond b x y) h
 
-has_set : (tb : Loader.Table) (c d : ℕ) (new : Loader.Status) → has (with_status tb c new) d ≡ has tb d
+has_set : (tb : Loader.Statuses) (c d : ℕ) (new : Loader.Status) → has (with_status tb c new) d ≡ has tb d
 has_set [] c d new = refl
 has_set (p ∷ ps) c d new = by (nat_eq p.0 c) (has_set ps c d new)
   where
@@ -42,7 +43,7 @@ has_set (p ∷ ps) c d new = by (nat_eq p.0 c) (has_set ps c d new)
     by true rest = refl
     by false rest = ap (λ r. cond (nat_eq p.0 d) true r) rest
 
-set_same : (tb : Loader.Table) (c : ℕ) (new : Loader.Status) → has tb c ≡ true → status_of (with_status tb c new) c ≡ new
+set_same : (tb : Loader.Statuses) (c : ℕ) (new : Loader.Status) → has tb c ≡ true → status_of (with_status tb c new) c ≡ new
 set_same [] c new h = cc
 set_same (p ∷ ps) c new h = by (nat_eq p.0 c) refl (set_same ps c new) h
   where
@@ -50,7 +51,7 @@ set_same (p ∷ ps) c new h = by (nat_eq p.0 c) refl (set_same ps c new) h
     by true e rest h = found p.0 c new (status_of ps c) e
     by false e rest h = not_found p.0 c p.1 (status_of (with_status ps c new) c) e ∙ rest h
 
-set_other : (tb : Loader.Table) (c d : ℕ) (new : Loader.Status) → nat_eq c d ≡ false → status_of (with_status tb c new) d ≡ status_of tb d
+set_other : (tb : Loader.Statuses) (c d : ℕ) (new : Loader.Status) → nat_eq c d ≡ false → status_of (with_status tb c new) d ≡ status_of tb d
 set_other [] c d new h = refl
 set_other (p ∷ ps) c d new h = by (nat_eq p.0 c) refl (set_other ps c d new h)
   where
@@ -74,21 +75,21 @@ fills_nothing m = by m.loader.background refl
 -- ---- what has come
 
 -- the clusters that came are here, and the others absent
-record Agrees (cluster : ℕ → Option ℕ) (come : List ℕ) (tb : Loader.Table) : Type 0 where
+record Agrees (cluster : ℕ → Option ℕ) (come : List ℕ) (tb : Loader.Statuses) : Type 0 where
   status : (c : ℕ) → has tb c ≡ true → status_of tb c ≡ cond (list_any (nat_eq c) come) Loader.Here Loader.Absent
   listed : (k c : ℕ) → cluster k ≡ Some c → has tb c ≡ true
 
 -- the table where a cluster has come
-abbrev come_table : Loader.Table → ℕ → Loader.Table
+abbrev come_table : Loader.Statuses → ℕ → Loader.Statuses
 come_table tb c = with_status (with_status tb c Loader.Asked) c Loader.Here
 
-agrees_more : (cluster : ℕ → Option ℕ) (come : List ℕ) (tb : Loader.Table) (c : ℕ) → has tb c ≡ true → Agrees cluster come tb → Agrees cluster (c ∷ come) (come_table tb c)
+agrees_more : (cluster : ℕ → Option ℕ) (come : List ℕ) (tb : Loader.Statuses) (c : ℕ) → has tb c ≡ true → Agrees cluster come tb → Agrees cluster (c ∷ come) (come_table tb c)
 agrees_more cluster come tb c there a = record {
   status = λ d h. by d (nat_eq c d) refl (sym (has_come d) ∙ h);
   listed = λ k d h. has_come d ∙ a.listed k d h;
 }
   where
-    asked : Loader.Table
+    asked : Loader.Statuses
     asked = with_status tb c Loader.Asked
 
     has_come : (d : ℕ) → has (with_status (with_status tb c Loader.Asked) c Loader.Here) d ≡ has tb d

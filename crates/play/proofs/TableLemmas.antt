@@ -10,7 +10,7 @@ use Rattle.play.specs.Value.{Closure, GlobalScope}
 use Rattle.play.specs.Run.{function_named}
 use Rattle.play.specs.Machine.{func_of, IsSound, StubIs}
 use Rattle.play.specs.Calls.{IsNamed, IsHere}
-use Rattle.play.proofs.Lists.{got_index}
+use Rattle.play.proofs.ListLemmas.{got_index}
 
 pub none_some : {A : Type 0} {x : A} → None ≡ Some x → ⊥
 none_some e = cc

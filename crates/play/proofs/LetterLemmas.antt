@@ -9,7 +9,7 @@ use Rattle.play.specs.declared.table.Body.TheVariants as body
 use Rattle.play.specs.Value.{Value, Closure, GlobalScope}
 use Rattle.play.specs.Run.{or_else, named_value, function_named}
 use Rattle.play.specs.Machine.{func_of, body_code, NameIs, NamesAre}
-use Rattle.play.proofs.Tables.{none_some, some_one}
+use Rattle.play.proofs.TableLemmas.{none_some, some_one}
 
 or_none : (a : Option Value) → or_else a None ≡ a
 or_none None = refl

@@ -10,7 +10,7 @@ use Rattle.js_parser.specs.declared.first.FirstStatement.TheVariants.{Call, Out}
 use Rattle.play.specs.declared.table.Table.{Table}
 use Rattle.play.specs.declared.table.Entry.{Entry}
 use Rattle.play.specs.declared.table.EntryPlace.{EntryPlace}
-use Rattle.play.specs.declared.table.Place.{Place}
+use Rattle.play.specs.declared.table.Continuation.{Continuation}
 use Rattle.play.specs.declared.table.Frame.{Frame}
 use Rattle.play.specs.declared.table.Frame.TheVariants as frame
 use Rattle.play.specs.declared.machine.Machine.{Machine}
@@ -24,13 +24,13 @@ use Rattle.play.specs.Program.{Ret, statements, finish, on_value, after_statemen
 use Rattle.play.specs.Run.{State, Trace, Stack, function_named, run}
 use Rattle.play.specs.Site.{ClusterFile}
 use Rattle.play.specs.Loader
-use Rattle.play.specs.Loader.{CallLine, UncaughtLine, IdleLine, status_of}
-use Rattle.play.specs.Report.{line_text, ended_text, out_of_steps_text}
+use Rattle.play.specs.Report.{CallLine, UncaughtLine, IdleLine, line_text, ended_text, out_of_steps_text}
+use Rattle.play.specs.Loader.{status_of}
 use Rattle.play.specs.Played.{Gives}
 use Rattle.play.specs.Machine.{func_of, env_at, rest_program, stack, state_of, trace_at, statuses, left_for, IsSound, StubIs, Agrees, trace_of, left_of, Keeps, Ends, Halts, Turns, NeedsNext}
 use Rattle.play.specs.Calls.{IsCall, PlainNamed, StubNamed, HereNamed}
-use Rattle.play.proofs.Steps.{RanOutAt, stack_last, ends, leaves_call, leaves_late, call_out, call_unbound, call_bound_out, entry_state, below, call_plain, call_stub, out_out, out_is, below_late, stub_out_early, stub_out_late, stub_is}
-use Rattle.play.proofs.Lefts.{left_called, left_plain, left_here, left_needed, left_out, left_idle, left_uncaught, status_at}
+use Rattle.play.proofs.StepLemmas.{RanOutAt, stack_last, ends, leaves_call, leaves_late, call_out, call_unbound, call_bound_out, entry_state, below, call_plain, call_stub, out_out, out_is, below_late, stub_out_early, stub_out_late, stub_is}
+use Rattle.play.proofs.LeftLemmas.{left_called, left_plain, left_here, left_needed, left_out, left_idle, left_uncaught, status_at}
 
 -- ---- the ends
 
@@ -81,7 +81,7 @@ call_runs_out t old new letter f c named lt s r =
 -- ---- going on
 
 -- the body of a plain function runs
-pub keeps_plain : (t : Table) (old new : Machine) (back : Place) (letter number : ℕ) (code : List FirstStatement) → IsCall letter old.place.rest → PlainNamed t letter number code
+pub keeps_plain : (t : Table) (old new : Machine) (back : Continuation) (letter number : ℕ) (code : List FirstStatement) → IsCall letter old.place.rest → PlainNamed t letter number code
     → old.clock.left ≡ new.clock.left + 4 → new.clock.steps ≡ old.clock.steps + 4 → new.clock.beats ≡ old.clock.beats + 1
     → new.frames ≡ old.frames ++ frame.Call back ∷ [] → back.rest ≡ drop 1 old.place.rest → back.depth ≡ old.place.depth → new.place.rest ≡ code → new.place.depth ≡ 1 → new.report ≡ old.report → Keeps t old new
 keeps_plain t old new back letter number code c named left steps beats frames rest depth place at report = record { same = λ e folder file ag. sym (was e folder file ∙ is e folder file) }
@@ -125,7 +125,7 @@ keeps_plain t old new back letter number code c named left steps beats frames re
         ∙ ap (λ d. run e new.clock.left (rest_program code d) (finish ∷ Ret ∷ below e ss old.place.depth old.frames) (entry_state e st)) at))))
 
 -- the body of a late function runs
-pub keeps_late : (t : Table) (old new : Machine) (back : Place) (letter number : ℕ) (entry : Entry) → IsSound t → IsCall letter old.place.rest → StubNamed t letter number → HereNamed t number entry
+pub keeps_late : (t : Table) (old new : Machine) (back : Continuation) (letter number : ℕ) (entry : Entry) → IsSound t → IsCall letter old.place.rest → StubNamed t letter number → HereNamed t number entry
     → old.clock.left ≡ new.clock.left + 12 → new.clock.steps ≡ old.clock.steps + 12 → new.clock.beats ≡ old.clock.beats + 1
     → new.frames ≡ old.frames ++ frame.Late back ∷ [] → back.rest ≡ drop 1 old.place.rest → back.depth ≡ old.place.depth → new.place.rest ≡ entry.code → new.place.depth ≡ 2 → new.report ≡ old.report → Keeps t old new
 keeps_late t old new back letter number entry sound c named here left steps beats frames rest depth place at report = record { same = λ e folder file ag. sym (was e folder file ag ∙ is e folder file) }
@@ -283,7 +283,7 @@ out_runs_out t old new text o lt s r =
     )) r
 
 -- a body is over
-pub keeps_return : (t : Table) (old new : Machine) (back : Place) (f : Frame) → ((e : ℕ → Option Func) (left d : ℕ) (fs : List Frame) (s : State) → trace_at e left [] d (fs ++ f ∷ []) s ≡ trace_at e left back.rest back.depth fs s)
+pub keeps_return : (t : Table) (old new : Machine) (back : Continuation) (f : Frame) → ((e : ℕ → Option Func) (left d : ℕ) (fs : List Frame) (s : State) → trace_at e left [] d (fs ++ f ∷ []) s ≡ trace_at e left back.rest back.depth fs s)
     → old.place.rest ≡ [] → old.frames ≡ new.frames ++ f ∷ [] → new.place ≡ back → new.clock ≡ old.clock → new.report ≡ old.report → Keeps t old new
 keeps_return t old new back f law rest frames place clock report = record { same = λ e folder file ag. sym (was e folder file) }
   where
@@ -296,10 +296,10 @@ keeps_return t old new back f law rest frames place clock report = record { same
         ∙ (ap (λ c. left_for folder file t old.report (trace_at e c.left new.place.rest new.place.depth new.frames (state_of t.functions c.beats c.steps))) (sym clock)
         ∙ ap (λ r. left_for folder file t r (trace_of e t new)) (sym report)))))
 
-pub keeps_call_return : (t : Table) (old new : Machine) (back : Place) → old.place.rest ≡ [] → old.frames ≡ new.frames ++ frame.Call back ∷ [] → new.place ≡ back → new.clock ≡ old.clock → new.report ≡ old.report → Keeps t old new
+pub keeps_call_return : (t : Table) (old new : Machine) (back : Continuation) → old.place.rest ≡ [] → old.frames ≡ new.frames ++ frame.Call back ∷ [] → new.place ≡ back → new.clock ≡ old.clock → new.report ≡ old.report → Keeps t old new
 keeps_call_return t old new back = keeps_return t old new back (frame.Call back) (λ e left d fs s. leaves_call e left d fs back s)
 
-pub keeps_late_return : (t : Table) (old new : Machine) (back : Place) → old.place.rest ≡ [] → old.frames ≡ new.frames ++ frame.Late back ∷ [] → new.place ≡ back → new.clock ≡ old.clock → new.report ≡ old.report → Keeps t old new
+pub keeps_late_return : (t : Table) (old new : Machine) (back : Continuation) → old.place.rest ≡ [] → old.frames ≡ new.frames ++ frame.Late back ∷ [] → new.place ≡ back → new.clock ≡ old.clock → new.report ≡ old.report → Keeps t old new
 keeps_late_return t old new back = keeps_return t old new back (frame.Late back) (λ e left d fs s. leaves_late e left d fs back s)
 
 -- the script is over

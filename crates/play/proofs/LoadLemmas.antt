@@ -12,22 +12,23 @@ use Rattle.play.specs.Run.{Entered, Say}
 use Rattle.play.specs.Site.{ClusterFile, Absent, Refused, Accepted, cluster_name, cluster_file, entries}
 use Rattle.play.specs.Played.{Answered, Lacks, Refuses, after_name, file_of}
 use Rattle.play.specs.Machine.{arrived_report, left_for, with_entries, IsSound, NeedsNext}
-use Rattle.play.specs.Answers.{Names, and_names, AsksFront, ErrorMeets, Fetches, FetchFails, Loads, site_left}
-use Rattle.play.proofs.Arrives.{file_is, left_absent, left_refused, left_arrived}
-use Rattle.play.proofs.Loaded.{agrees_more}
+use Rattle.dl_ports.specs.Stores.{AskedNames, and_names, AsksFront}
+use Rattle.play.specs.Answers.{ErrorMeets, Fetches, FetchFails, Loads, site_left}
+use Rattle.play.proofs.ArrivalLemmas.{file_is, left_absent, left_refused, left_arrived}
+use Rattle.play.proofs.EntryLemmas.{agrees_more}
 
-pub front_none : (asked : Names) (names : List (List ℕ)) → AsksFront asked asked names
+pub front_none : (asked : AskedNames) (names : List (List ℕ)) → AsksFront asked asked names
 front_none None names = (0, refl)
 front_none (Some before) names = (0, ap Some (sym (append-nil before)))
 
-pub one_name : (asked : Names) (name : List ℕ) → and_name asked name ≡ and_names asked (name ∷ [])
+pub one_name : (asked : AskedNames) (name : List ℕ) → and_name asked name ≡ and_names asked (name ∷ [])
 one_name None name = refl
 one_name (Some before) name = refl
 
-pub front_one : (asked now : Names) (name : List ℕ) (names : List (List ℕ)) → now ≡ and_name asked name → AsksFront asked now (name ∷ names)
+pub front_one : (asked now : AskedNames) (name : List ℕ) (names : List (List ℕ)) → now ≡ and_name asked name → AsksFront asked now (name ∷ names)
 front_one asked now name names h = (1, h ∙ one_name asked name)
 
-pub front_either : (asked now : Names) (name : List ℕ) (names : List (List ℕ)) → (now ≡ asked) ⊎ (now ≡ and_name asked name) → AsksFront asked now (name ∷ names)
+pub front_either : (asked now : AskedNames) (name : List ℕ) (names : List (List ℕ)) → (now ≡ asked) ⊎ (now ≡ and_name asked name) → AsksFront asked now (name ∷ names)
 front_either asked now name names (inl e) = subst (λ z. AsksFront asked z (name ∷ names)) (sym e) (front_none asked (name ∷ names))
 front_either asked now name names (inr e) = front_one asked now name names e
 
@@ -56,13 +57,13 @@ module _ (files : Files) (folder : List ℕ) (t : Table) (m : Machine) (place : 
   asks_first es Refused h = ([], ap (λ (r : Answered). r.asked) (was ∙ left_refused t place needs.line es sound needs.line_at needs.absent folder file m.report needs.number (needs.enters fun).0 (needs.enters fun).1 (needs.enters fun).2 needs.listed (the_file ∙ h)))
   asks_first es (Accepted read) h = (_, ap (λ (r : Answered). r.asked) (was ∙ left_arrived t place needs.line es sound needs.line_at needs.absent folder file m.report needs.number (needs.enters fun).0 (needs.enters fun).1 (needs.enters fun).2 needs.listed read (the_file ∙ h) sound.all_loaded))
 
-  pub memory_front : (before now : Names) → (now ≡ before) ⊎ (now ≡ and_name before (cluster_name folder needs.line.cluster)) → AsksFront before now (site_left files folder t m).asked
+  pub memory_front : (before now : AskedNames) → (now ≡ before) ⊎ (now ≡ and_name before (cluster_name folder needs.line.cluster)) → AsksFront before now (site_left files folder t m).asked
   unfolding name
   memory_front before now h =
       let a = asks_first [] (cluster_file files folder needs.line) refl in
       subst (AsksFront before now) (sym a.1) (front_either before now (cluster_name folder needs.line.cluster) a.0 h)
 
-  pub fails : (before now : Names) (e : FirstError) → FetchFails files folder needs.line before now e → ErrorMeets (site_left files folder t m) before now e
+  pub fails : (before now : AskedNames) (e : FirstError) → FetchFails files folder needs.line before now e → ErrorMeets (site_left files folder t m) before now e
   unfolding fun file name
   fails before now ReadFault h =
       let a = asks_first [] (cluster_file files folder needs.line) refl in
@@ -75,7 +76,7 @@ module _ (files : Files) (folder : List ℕ) (t : Table) (m : Machine) (place : 
       (ap (λ (r : Answered). r.answer) r ∙ ap Refuses (sym h.0), h.2 ∙ (one_name before (cluster_name folder needs.line.cluster) ∙ ap (λ (r : Answered). and_names before r.asked) (sym r)))
   fails before now OutOfMemory h = memory_front before now h
 
-  pub loads : (new : Table) (moved : Machine) (es : List Entry) (before now : Names) → new ≡ with_entries t place es → moved ≡ record m { report = arrived_report m.report needs.line.cluster } → Fetches files folder needs.line es before now → Loads files folder t new m moved before now
+  pub loads : (new : Table) (moved : Machine) (es : List Entry) (before now : AskedNames) → new ≡ with_entries t place es → moved ≡ record m { report = arrived_report m.report needs.line.cluster } → Fetches files folder needs.line es before now → Loads files folder t new m moved before now
   unfolding fun file name
   loads new moved es before now new_is moved_is f = record {
     name = cluster_name folder needs.line.cluster;

@@ -6,24 +6,25 @@ use Rattle.js_tree.specs.Tree.{Script}
 use Rattle.play.specs.declared.outcome.End.{End}
 use Rattle.play.specs.declared.outcome.Outcome.{Outcome}
 use Rattle.play.specs.declared.outcome.FirstError.{FirstError}
-use Rattle.play.specs.Answers.{Names, Meets}
+use Rattle.dl_ports.specs.Stores.{AskedNames}
+use Rattle.play.specs.Answers.{Meets}
 use Rattle.play.specs.declared.outcome.End.TheVariants as end
 use Rattle.play.specs.declared.outcome.FirstFile.TheVariants as first
 use Rattle.play.specs.Run.{Mark, Called, Uncaught, Idle, Entered, Needed, Trace, Say, End as Finish, OutOfSteps, IsStuck}
 use Rattle.play.specs.Page.{original}
 use Rattle.play.specs.Site.{ClusterFile, Absent, Refused, Accepted, entries, site_tree}
 use Rattle.play.specs.Loader
-use Rattle.play.specs.Loader.{Line, CallLine, UncaughtLine, IdleLine, EventLine, WaitLine, AskLine, HereLine, LostLine, CutLine, Moved, step, fills, effect, needed, arrived, status_of, moves, ask_all, to_ask}
+use Rattle.play.specs.Report.{Line, CallLine, UncaughtLine, IdleLine, EventLine, WaitLine, AskLine, HereLine, LostLine, CutLine, lines_text}
+use Rattle.play.specs.Loader.{Moved, step, fills, effect, needed, arrived, status_of, moves, ask_all, to_ask}
 use Rattle.play.specs.Walk
 use Rattle.play.specs.Walk.{RunEnd, walk, end_of, moved_by, request, requested, arrives}
 use Rattle.play.specs.Manifest.{cluster_numbers}
-use Rattle.play.specs.Report.{lines_text}
-use Rattle.play.specs.Played.{Gives, Refuses, Ending, Reports, LacksFile, RefusesFile, with_line, comes, reads, answer_of, cluster_of, file_of, site_run, site_lines, site_played, for_script, for_script_file, for_manifest, for_manifest_file, for_folder, played, is_page}
+use Rattle.play.specs.Played.{Gives, Refuses, Walked, Reports, LacksFile, RefusesFile, with_line, comes, reads, answer_of, cluster_of, file_of, site_run, site_lines, site_played, for_script, for_script_file, for_manifest, for_manifest_file, for_folder, played, is_page}
 use Rattle.play.specs.Laws
 use Rattle.play.specs.Laws.{seen, with_mark, ending, IsPrefix, Joined}
 use Rattle.play.specs.Headline.{call_line, calls, call_mark, marked_calls, original_calls, PutsBackTo, end_text, ShowsOriginal}
 use Rattle.play.specs.Laziness.{original_lines, ShowsLoads, lazy_lines}
-use Rattle.play.proofs.Lazy.{site_lazy, lazy_prefix}
+use Rattle.play.proofs.LazinessLemmas.{site_lazy, lazy_prefix}
 use Rattle.play.proofs.sim.Lates.{entries_late}
 use Rattle.play.proofs.sim.Back.{script_back}
 use Rattle.play.proofs.sim.Whole.{prefix_same, same_prefix, joined}
@@ -120,21 +121,21 @@ prefix_calls xs ys p = record { rest = marked_calls p.rest; is = sym (marked_on 
 
 -- ---- what was read
 
-abbrev NoReport : Ending → Type 0
+abbrev NoReport : Walked → Type 0
 NoReport (Reports lines e) = ⊥
 NoReport (LacksFile c) = Unit {0}
 NoReport (RefusesFile c) = Unit {0}
 
-no_line : (l : Line) (x : Ending) → NoReport x → NoReport (with_line l x)
+no_line : (l : Line) (x : Walked) → NoReport x → NoReport (with_line l x)
 no_line l (Reports lines e) h = absurd h
 no_line l (LacksFile c) h = tt
 no_line l (RefusesFile c) h = tt
 
-with_on : (l : Line) (lines : List Line) (e : RunEnd) (x : Ending) → (x ≡ Reports lines e) ⊎ NoReport x → (with_line l x ≡ Reports (l ∷ lines) e) ⊎ NoReport (with_line l x)
+with_on : (l : Line) (lines : List Line) (e : RunEnd) (x : Walked) → (x ≡ Reports lines e) ⊎ NoReport x → (with_line l x ≡ Reports (l ∷ lines) e) ⊎ NoReport (with_line l x)
 with_on l lines e x (inl q) = inl (ap (with_line l) q)
 with_on l lines e x (inr q) = inr (no_line l x q)
 
-here_on : (c : ℕ) (f : ClusterFile) (lines : List Line) (e : RunEnd) (x : Ending) → (x ≡ Reports lines e) ⊎ NoReport x → (comes c f x ≡ Reports (HereLine c ∷ lines) e) ⊎ NoReport (comes c f x)
+here_on : (c : ℕ) (f : ClusterFile) (lines : List Line) (e : RunEnd) (x : Walked) → (x ≡ Reports lines e) ⊎ NoReport x → (comes c f x ≡ Reports (HereLine c ∷ lines) e) ⊎ NoReport (comes c f x)
 here_on c Absent lines e x h = inr tt
 here_on c Refused lines e x h = inr tt
 here_on c (Accepted es) lines e x h = with_on (HereLine c) lines e x h
@@ -156,15 +157,16 @@ record Whole (lines : List Line) (x : RunEnd) (report : List ℕ) (e : End) : Ty
   steps : ℕ
   report_is : report ≡ lines_text lines ++ end_text e steps
   ends : e ≡ end.Ended → Laws.without_steps x ≡ Laws.Ended
+  ended : Laws.without_steps x ≡ Laws.Ended → e ≡ end.Ended
 
 whole_of : (folder : List ℕ) (lines : List Line) (x : RunEnd) (report : List ℕ) (e : End) → answer_of folder (Reports lines x) ≡ Gives report e → Whole lines x report e
-whole_of folder lines (Walk.Ended n) report end.Ended h = record { steps = n; report_is = cc; ends = λ q. refl }
+whole_of folder lines (Walk.Ended n) report end.Ended h = record { steps = n; report_is = cc; ends = λ q. refl; ended = λ q. refl }
 whole_of folder lines (Walk.Ended n) report end.OutOfSteps h = cc
 whole_of folder lines (Walk.RanOut n) report end.Ended h = cc
-whole_of folder lines (Walk.RanOut n) report end.OutOfSteps h = record { steps = n; report_is = cc; ends = λ q. cc }
+whole_of folder lines (Walk.RanOut n) report end.OutOfSteps h = record { steps = n; report_is = cc; ends = λ q. cc; ended = λ q. cc }
 whole_of folder lines Walk.Broke report e h = cc
 
-given : (folder : List ℕ) (x : Ending) (report : List ℕ) (e : End) → NoReport x → answer_of folder x ≡ Gives report e → ⊥
+given : (folder : List ℕ) (x : Walked) (report : List ℕ) (e : End) → NoReport x → answer_of folder x ≡ Gives report e → ⊥
 given folder (Reports lines y) report e n h = n
 given folder (LacksFile c) report e n h = cc
 given folder (RefusesFile c) report e n h = cc
@@ -214,6 +216,7 @@ module _ (files : Files) (folder : List ℕ) (n : ℕ) (script : Script) (p : Pu
         whole = λ q. c ∙ ap marked_calls (j.whole n (λ r. ended_ran (sym (w.ends q) ∙ r))).0;
         within = subst (λ x. IsPrefix x (original_calls script n)) (sym c) (prefix_calls (seen trace) (seen (original script n)) (j.within n));
         reached = λ m le. subst (λ x. IsPrefix (original_calls script m) x) (sym c) (prefix_calls (seen (original script m)) (seen trace) (j.reached m n le));
+        ends = λ m le q. w.ended (j.reached_end m n le (λ r. ended_ran (sym q ∙ r))).0;
       }
 
   pub folder_loads : (for_folder files folder n).answer ≡ Gives report e → ShowsLoads p.manifest report e script n
@@ -229,6 +232,7 @@ module _ (files : Files) (folder : List ℕ) (n : ℕ) (script : Script) (p : Pu
         whole = λ q. lines_are ∙ (ap (lazy_lines (cluster_of p.manifest) []) (j.whole n (λ r. ended_ran (sym (w.ends q) ∙ r))).0 ∙ sym (originals_are_lazy files folder script p n));
         within = same_prefix lines_are (prefix_same (lazy_prefix (cluster_of p.manifest) [] (seen trace) (seen (original script n)) (j.within n)) (sym (originals_are_lazy files folder script p n)));
         reached = λ m le. same_prefix (originals_are_lazy files folder script p m) (prefix_same (lazy_prefix (cluster_of p.manifest) [] (seen (original script m)) (seen trace) (j.reached m n le)) (sym lines_are));
+        ends = λ m le q. w.ended (j.reached_end m n le (λ r. ended_ran (sym q ∙ r))).0;
       }
 
 pub played_shows : (files : Files) (folder page : List ℕ) (n : ℕ) (script : Script) → PutsBackTo files folder script → (report : List ℕ) (e : End) → (played files folder page n).answer ≡ Gives report e → ShowsOriginal report e script n
@@ -245,10 +249,10 @@ played_loads files folder page n script p report e h = by (is_page page) refl h
     by true q h = folder_loads files folder n script p report e h
     by false q h = cc
 
-pub folder_result : (files : Files) (folder : List ℕ) (n : ℕ) (script : Script) → PutsBackTo files folder script → (before now : Names) (result : Result Outcome FirstError) → Meets (for_folder files folder n) before now result → IfOk result (λ o. ShowsOriginal o.report o.end script n)
+pub folder_result : (files : Files) (folder : List ℕ) (n : ℕ) (script : Script) → PutsBackTo files folder script → (before now : AskedNames) (result : Result Outcome FirstError) → Meets (for_folder files folder n) before now result → IfOk result (λ o. ShowsOriginal o.report o.end script n)
 folder_result files folder n script p before now (Ok o) m = folder_shows files folder n script p o.report o.end m.0
 folder_result files folder n script p before now (Err x) m = tt
 
-pub folder_result_loads : (files : Files) (folder : List ℕ) (n : ℕ) (script : Script) (p : PutsBackTo files folder script) (before now : Names) (result : Result Outcome FirstError) → Meets (for_folder files folder n) before now result → IfOk result (λ o. ShowsLoads p.manifest o.report o.end script n)
+pub folder_result_loads : (files : Files) (folder : List ℕ) (n : ℕ) (script : Script) (p : PutsBackTo files folder script) (before now : AskedNames) (result : Result Outcome FirstError) → Meets (for_folder files folder n) before now result → IfOk result (λ o. ShowsLoads p.manifest o.report o.end script n)
 folder_result_loads files folder n script p before now (Ok o) m = folder_loads files folder n script p o.report o.end m.0
 folder_result_loads files folder n script p before now (Err x) m = tt

@@ -18,10 +18,10 @@ use Rattle.play.specs.Site.{line_of, Refused, Accepted, listed_as, cluster_of_by
 use Rattle.play.specs.Tables.{loaded_entry}
 use Rattle.play.specs.Machine.{entry_func, IsSound, NeedsNext, with_entries}
 use Rattle.play.specs.Answers.{missing, OneMore, SiteAgrees}
-use Rattle.play.proofs.Lefts.{same_number, other_number}
-use Rattle.play.proofs.Lists.{any_at}
-use Rattle.play.proofs.Tables.{none_some, some_one, within_got}
-use Rattle.play.proofs.Names.{set_here, set_other}
+use Rattle.play.proofs.LeftLemmas.{same_number, other_number}
+use Rattle.play.proofs.ListLemmas.{any_at}
+use Rattle.play.proofs.TableLemmas.{none_some, some_one, within_got}
+use Rattle.play.proofs.LetterLemmas.{set_here, set_other}
 
 -- ---- what an accepted file holds
 
