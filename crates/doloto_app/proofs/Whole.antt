@@ -2,6 +2,7 @@
 use Rattle.std.proofs.Common.{◌≡◌, ◌⊎◌, inl, inr, ℕ, List, [], Option, Some, None, refl, sym, ap, ◌∙◌, subst}
 use Rattle.play.specs.declared.outcome.End.{End}
 use Rattle.play.specs.declared.outcome.End.TheVariants as end
+use Rattle.dl_ports.specs.Counts.{CountsFault}
 use Rattle.dl_ports.specs.Files.{Files}
 use Rattle.js_tree.specs.Tree.{Script}
 use Rattle.play.specs.Played.{Answer, Answered, Gives, played_page, for_page_file}
@@ -12,7 +13,8 @@ use Rattle.dl_ports.specs.Stores.{AskedNames}
 use Rattle.doloto_app.specs.declared.status.Status.{Status}
 use Rattle.doloto_app.specs.declared.status.Status.TheVariants.{Ended, Words, Refused, OutOfSteps, ReadFault, WriteFault, OutOfMemory, Missing}
 use Rattle.doloto_app.specs.declared.status.Refusal.TheVariants.{First}
-use Rattle.doloto_app.specs.Ends.{Taken, Ends, WritesOriginal, WritesLoads, status_of_end}
+use Rattle.doloto_app.specs.Ends.{Taken, Ends, NoFault, WritesOriginal, WritesLoads, status_of_end}
+use Rattle.doloto_app.specs.Words.{Command, Play}
 
 same_end : {a : Answer} {r q : List ℕ} {d e : End} → a ≡ Gives r d → a ≡ Gives q e → status_of_end d ≡ status_of_end e
 same_end h k = let s = sym h ∙ k in cc
@@ -64,15 +66,19 @@ module _ (files : Files) (folder name : List ℕ) (n : ℕ) (script : Script) (a
   writes_loads OutOfMemory p h = tt
   writes_loads (Missing missing) p h = tt
 
-pub same_folder : (o : Option (List ℕ × List ℕ)) (a b c d : List ℕ) → o ≡ Some (a, b) → o ≡ Some (c, d) → a ≡ c
-same_folder o a b c d h k = ap first (sym h ∙ k)
-  where
-    first : Option (List ℕ × List ℕ) → List ℕ
-    first None = []
-    first (Some p) = p.0
+-- words say one command
+pub same_paths : (o : Option Command) (a b c d : List ℕ) → o ≡ Some (Play a b) → o ≡ Some (Play c d) → (a ≡ c) × (b ≡ d)
+same_paths o a b c d h k = let e = sym h ∙ k in (cc, cc)
 
 -- the same for a folder that is the same
-pub loads_in : (taken taken_now : Taken) (result : Status) (files : Files) (script : Script) (here there : List ℕ) → here ≡ there → ((p : PutsBackTo files there script) → WritesLoads taken taken_now p.manifest script 10000000 result)
-    → (p : PutsBackTo files here script) → WritesLoads taken taken_now p.manifest script 10000000 result
-loads_in taken taken_now result files script here there e f p =
-    (subst (λ folder. (p : PutsBackTo files folder script) → WritesLoads taken taken_now p.manifest script 10000000 result) (sym e) f) p
+pub loads_in : (taken taken_now : Taken) (n : ℕ) (result : Status) (files : Files) (script : Script) (here there : List ℕ) → here ≡ there → ((p : PutsBackTo files there script) → WritesLoads taken taken_now p.manifest script n result)
+    → (p : PutsBackTo files here script) → WritesLoads taken taken_now p.manifest script n result
+loads_in taken taken_now n result files script here there e f p =
+    (subst (λ folder. (p : PutsBackTo files folder script) → WritesLoads taken taken_now p.manifest script n result) (sym e) f) p
+
+-- where a fault is told exactly where its count rose, and neither count rose, the answer is given or memory was wanting
+pub completes : (r : Answered) (asked asked_now : AskedNames) (taken taken_now : Taken) (result : Status) (report : List ℕ) (e : End) → Ends r asked asked_now taken taken_now result → r.answer ≡ Gives report e
+    → (reads reads_now writes writes_now : ℕ) → CountsFault (result ≡ ReadFault) reads reads_now → CountsFault (result ≡ WriteFault) writes writes_now
+    → NoFault reads reads_now → NoFault writes writes_now → (result ≡ status_of_end e) ⊎ (result ≡ OutOfMemory)
+completes r asked asked_now taken taken_now result report e ends gives reads reads_now writes writes_now read write no_read no_write =
+    is_complete r asked asked_now taken taken_now result report e ends gives (λ h. no_read (read.rose h)) (λ h. no_write (write.rose h))
