@@ -6,6 +6,7 @@ use Rattle.dl_ports.specs.Counts.{Rose}
 use Rattle.dl_ports.specs.Streams.{and_more, WritesPart}
 use Rattle.play.specs.declared.outcome.End.{End}
 use Rattle.play.specs.declared.outcome.End.TheVariants as end
+use Rattle.play.specs.declared.outcome.Outcome.{Outcome}
 use Rattle.play.specs.declared.outcome.FirstFile.{FirstFile}
 use Rattle.play.specs.declared.outcome.FirstFile.TheVariants as first
 use Rattle.play.specs.declared.outcome.FirstError.{FirstError}
@@ -99,6 +100,18 @@ Ends r asked asked_now taken taken_now OutOfMemory =
     Stopped r asked asked_now taken taken_now ⊎ Broken r asked asked_now taken taken_now
 Ends r asked asked_now taken taken_now (Missing name) =
     (r.answer ≡ Lacks name) × PutsNothing r asked asked_now taken taken_now
+
+-- the report of an outcome was written: the whole of it, with the status of its end, or a front
+abbrev pub Puts : Outcome → Taken → Taken → Status → Type 0
+Puts o taken taken_now Ended = (o.end ≡ end.Ended) × (taken_now ≡ and_more taken o.report)
+Puts o taken taken_now OutOfSteps =
+    (o.end ≡ end.OutOfSteps) × (taken_now ≡ and_more taken o.report)
+Puts o taken taken_now WriteFault = WritesPart taken o.report taken_now
+Puts o taken taken_now OutOfMemory = WritesPart taken o.report taken_now
+Puts o taken taken_now (Words fault) = ⊥
+Puts o taken taken_now (Refused refusal) = ⊥
+Puts o taken taken_now ReadFault = ⊥
+Puts o taken taken_now (Missing name) = ⊥
 
 -- the status where there is no report
 abbrev pub status_of : FirstError → Status

@@ -8,13 +8,13 @@ ghost use Rattle.play.specs.Headline.{PutsBackTo};
 ghost use Rattle.play.specs.Played.{Gives, played_page};
 ghost use Rattle.play.specs.declared.outcome.End.{End as AnEnd};
 ghost use Rattle.doloto_app.specs.Words.{Commands, Play, default_steps, said};
-ghost use Rattle.doloto_app.specs.Ends.{Ends, MayPut, NoFault, WritesLoads, WritesOriginal};
+ghost use Rattle.doloto_app.specs.Ends.{Ends, MayPut, NoFault, Puts, WritesLoads, WritesOriginal};
 ghost use Rattle.doloto_app.specs.Ends.{status_of, status_of_end};
 
 use crate::status::{Refusal, Status};
 use crate::words::{WordFault, play_paths};
 use dl_ports::{PortError, Sink, Store, put_all};
-use play::{End, FirstError, play_page};
+use play::{End, FirstError, Outcome, play_page};
 use std::alloc::Global;
 
 /// The steps that a run may take where the words do not say how many.
@@ -32,6 +32,22 @@ fn status_of(error: FirstError) -> Status
     }
 }
 
+/// Writes the report of an outcome. The status is that of its end.
+fn write_report<K: Sink>(outcome: &Outcome, out: &mut K) -> Status
+    ensures puts { Puts outcome.now (K.written out.old) (K.written out.new) result }
+    ensures writes { CountsFault (result ≡ Status.WriteFault)
+        (K.faults out.old) (K.faults out.new) }
+{
+    match put_all(out, outcome.report.items()) {
+        Err(PortError::Failed) => Status::WriteFault,
+        Err(PortError::OutOfMemory) => Status::OutOfMemory,
+        Ok(()) => match outcome.end {
+            End::Ended => Status::Ended,
+            End::OutOfSteps => Status::OutOfSteps,
+        },
+    }
+}
+
 /// Plays the site of a folder for a page, and writes the report once it is whole.
 fn play_out<S: Store, K: Sink>(
     alloc: Global,
@@ -44,6 +60,13 @@ fn play_out<S: Store, K: Sink>(
         Ends (played_page files site.now page.now default_steps)
         (S.asked store.old) (S.asked store.new)
         (K.written out.old) (K.written out.new) result) }
+    ensures headline { ForSome (S.files store.old) (λ files.
+        (script : Script) → PutsBackTo files site.now script
+        → WritesOriginal (K.written out.old) (K.written out.new) script default_steps result) }
+    ensures laziness { ForSome (S.files store.old) (λ files.
+        (script : Script) (back : PutsBackTo files site.now script)
+        → WritesLoads (K.written out.old) (K.written out.new)
+        back.manifest script default_steps result) }
     ensures reads { OnlyReads S.Store store.old store.new (result ≡ Status.ReadFault) }
     ensures writes { CountsFault (result ≡ Status.WriteFault)
         (K.faults out.old) (K.faults out.new) }
@@ -52,14 +75,7 @@ fn play_out<S: Store, K: Sink>(
 {
     match play_page(alloc, page, site, DEFAULT_STEPS, store) {
         Err(error) => status_of(error),
-        Ok(outcome) => match put_all(out, outcome.report.items()) {
-            Err(PortError::Failed) => Status::WriteFault,
-            Err(PortError::OutOfMemory) => Status::OutOfMemory,
-            Ok(()) => match outcome.end {
-                End::Ended => Status::Ended,
-                End::OutOfSteps => Status::OutOfSteps,
-            },
-        },
+        Ok(outcome) => write_report(&outcome, out),
     }
 }
 
