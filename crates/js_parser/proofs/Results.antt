@@ -4,7 +4,7 @@ use Rattle.std.specs.Prelude.{All, IfOk, IfSome}
 use Rattle.js_parser.specs.declared.first.FirstScript.{FirstScript}
 use Rattle.js_parser.specs.declared.first.FirstEntry.{FirstEntry}
 use Rattle.js_parser.specs.First.{IsItem, IsEntry, script_text, cluster_text}
-use Rattle.js_parser.specs.Reader.{read_script, read_cluster}
+use Rattle.js_parser.specs.FirstReader.{read_script, read_cluster}
 use Rattle.js_parser.proofs.Laws.{read_script_sound, read_script_again, read_cluster_sound, read_cluster_again}
 
 pub script_sound : {E : Type 0} (r : Result (Option FirstScript) E) (bs : List ℕ) → IfOk r (λ o. o ≡ read_script bs) → IfOk r (λ o. IfSome o (λ s. All IsItem s.items × (script_text s ≡ bs)))

@@ -11,6 +11,7 @@ use Rattle.std.specs.Prelude.{◌≡◌, ◌≢◌, ◌≤◌, ℕ, List, [], �
 use Rattle.std.specs.List.{flat_map}
 use Rattle.std.specs.Fmt.{decimal}
 use Rattle.js_tree.specs.Tree
+use Rattle.js_tree.specs.Numbering.{last_function_number}
 use Rattle.js_tree.specs.declared.tree.Role.TheVariants.{Plain}
 use Rattle.js_parser.specs.declared.first.FirstStatement.{FirstStatement}
 use Rattle.js_parser.specs.declared.first.FirstStatement.TheVariants.{Call, Out}
@@ -32,7 +33,7 @@ abbrev pub IsPlainCharacter : ℕ → Type 0
 IsPlainCharacter c = (32 ≤ c) × (c ≤ 126) × (c ≢ 34) × (c ≢ 92)
 
 abbrev pub IsFunctionNumber : ℕ → Type 0
-IsFunctionNumber k = (1 ≤ k) × (k ≤ 65535)
+IsFunctionNumber k = (1 ≤ k) × (k ≤ last_function_number)
 
 abbrev pub IsStatement : FirstStatement → Type 0
 IsStatement (Call letter) = IsLetter letter

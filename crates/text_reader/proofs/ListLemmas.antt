@@ -37,15 +37,18 @@ module _ {A : Type 0} (P : A → Type 0) (text : A → List ℕ) (mark : List �
     pub is : xs ≡ found ++ more
     pub each : All P more
     pub texts : flat_map text more ++ (mark ++ r) ≡ bs
+    pub last : next (mark ++ r) ≡ Some (None, r)
 
   list_end : (found : List A) (bs mid : List ℕ) (xs : List A) (r : List ℕ) → next bs ≡ Some (None, mid) → ◌≡◌ {A = Found (List A)} (Some (found, mid)) (Some (xs, r)) → IsList found bs xs r
   list_end found bs mid xs r e w =
       let p = same_parts found xs mid r w in
+      let marked : mark ++ r ≡ bs = ap (λ v. mark ++ v) (sym p.1) ∙ reads.end bs mid e in
       record {
         more = [];
         is = sym p.0 ∙ sym (append-nil found);
         each = All-nil P;
-        texts = ap (λ v. mark ++ v) (sym p.1) ∙ reads.end bs mid e;
+        texts = marked;
+        last = ap next marked ∙ e ∙ ap (λ v. Some (None, v)) p.1;
       }
 
   list_more : (found : List A) (bs mid : List ℕ) (xs : List A) (r : List ℕ) (x : A) → next bs ≡ Some (Some x, mid) → IsList (found ++ x ∷ []) mid xs r → IsList found bs xs r
@@ -57,6 +60,7 @@ module _ {A : Type 0} (P : A → Type 0) (text : A → List ℕ) (mark : List �
         is = w.is ∙ append_assoc found (x ∷ []) w.more;
         each = All-cons P x w.more h.0 w.each;
         texts = append_assoc (text x) tail (mark ++ r) ∙ ap (λ v. text x ++ v) w.texts ∙ h.1;
+        last = w.last;
       }
 
   list_by : (found : List A) (bs : List ℕ) (xs : List A) (r : List ℕ) (more : A → Reader (List A))
@@ -133,10 +137,10 @@ module _ {A : Type 0} (P : A → Type 0) (text : A → List ℕ) (read : Reader 
       let Is : A → Type 0 = λ v. P v × (text v ++ rest ≡ bs) in
       subst Is same (reads.sound bs rest w.0 w.1)
 
-  end_by : (bs rest : List ℕ) → ((r : List ℕ) × (stop bs ≡ Some (tt, r)) × (pure {A = Option A} None r ≡ Some (None, rest))) ⊎ ((stop bs ≡ None) × (an_item read bs ≡ Some (None, rest))) → mark ++ rest ≡ bs
+  end_by : (bs rest : List ℕ) → ((r : List ℕ) × (stop bs ≡ Some (tt, r)) × (pure {A = Option A} None r ≡ Some (None, rest))) ⊎ ((stop bs ≡ None) × (an_item read bs ≡ Some (None, rest))) → stop bs ≡ Some (tt, rest)
   end_by bs rest (inl h) =
       let p = same_parts {A = Option A} None None h.0 rest h.2 in
-      ap (λ v. mark ++ v) (sym p.1) ∙ stops bs h.0 h.1
+      h.1 ∙ ap (λ v. Some (tt, v)) p.1
   end_by bs rest (inr h) =
       let w = mapped read (λ y. Some y) bs rest None h.1 in
       cc
@@ -145,9 +149,12 @@ module _ {A : Type 0} (P : A → Type 0) (text : A → List ℕ) (read : Reader 
   unfolding up_to
   item_sound bs rest x e = item_by bs rest x (chosen_parts (stop bs) (pure None) (an_item read bs) (Some x, rest) e)
 
-  end_sound : (bs rest : List ℕ) → up_to stop read bs ≡ Some (None, rest) → mark ++ rest ≡ bs
+  end_stops : (bs rest : List ℕ) → up_to stop read bs ≡ Some (None, rest) → stop bs ≡ Some (tt, rest)
   unfolding up_to
-  end_sound bs rest e = end_by bs rest (chosen_parts (stop bs) (pure None) (an_item read bs) (None, rest) e)
+  end_stops bs rest e = end_by bs rest (chosen_parts (stop bs) (pure None) (an_item read bs) (None, rest) e)
+
+  end_sound : (bs rest : List ℕ) → up_to stop read bs ≡ Some (None, rest) → mark ++ rest ≡ bs
+  end_sound bs rest e = stops bs rest (end_stops bs rest e)
 
   item_again : (x : A) (rest : List ℕ) → P x → Anything rest → up_to stop read (text x ++ rest) ≡ Some (Some x, rest)
   unfolding up_to
@@ -155,6 +162,16 @@ module _ {A : Type 0} (P : A → Type 0) (text : A → List ℕ) (read : Reader 
 
   pub up_to_reads : ReadsItems P text mark Anything (up_to stop read)
   up_to_reads = record { item = item_sound; end = end_sound; again = item_again; goes_on = λ x rest. tt; some = some }
+
+  -- a list that was read is its items, the mark, and what is left
+  pub up_to_sound : (bs : List ℕ) (xs : List A) (r : List ℕ) → list_after [] (up_to stop read) bs ≡ Some (xs, r) → All P xs × (flat_map text xs ++ (mark ++ r) ≡ bs)
+  up_to_sound = whole_sound P text mark Anything (up_to stop read) up_to_reads
+
+  -- the mark comes behind the last item
+  pub up_to_last : (bs : List ℕ) (xs : List A) (r : List ℕ) → list_after [] (up_to stop read) bs ≡ Some (xs, r) → stop (mark ++ r) ≡ Some (tt, r)
+  up_to_last bs xs r e =
+      let w = list_sound P text mark Anything (up_to stop read) up_to_reads [] bs xs r e in
+      end_stops (mark ++ r) r w.last
 
   -- a list is read again from the texts of its items and the mark
   pub up_to_again : (xs : List A) (r : List ℕ) → All P xs → stop (mark ++ r) ≡ Some (tt, r) → list_after [] (up_to stop read) (flat_map text xs ++ (mark ++ r)) ≡ Some (xs, r)
@@ -209,6 +226,16 @@ module _ {A : Type 0} (P : A → Type 0) (text : A → List ℕ) (Next : List �
 
   pub behind_reads : ReadsItems P line [] Next (behind front read)
   behind_reads = record { item = behind_item; end = behind_end; again = behind_again; goes_on = behind_goes_on; some = behind_some }
+
+  -- a list that was read is its lines and what is left
+  pub lines_sound : (bs : List ℕ) (xs : List A) (r : List ℕ) → list_after [] (behind front read) bs ≡ Some (xs, r) → All P xs × (flat_map line xs ++ r ≡ bs)
+  lines_sound = whole_sound P line [] Next (behind front read) behind_reads
+
+  -- the same behind items found before
+  pub more_lines : (found : List A) (bs : List ℕ) (xs : List A) (r : List ℕ) → list_after found (behind front read) bs ≡ Some (xs, r) → (ys : List A) × (xs ≡ found ++ ys) × All P ys × (flat_map line ys ++ r ≡ bs)
+  more_lines found bs xs r e =
+      let w = list_sound P line [] Next (behind front read) behind_reads found bs xs r e in
+      (w.more, w.is, w.each, w.texts)
 
   -- a list is read again from its lines, where no other line follows
   pub lines_again : (xs found : List A) (r : List ℕ) → All P xs → skip front r ≡ None → Next r → list_after found (behind front read) (flat_map line xs ++ r) ≡ Some (found ++ xs, r)

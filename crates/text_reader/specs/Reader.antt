@@ -67,6 +67,10 @@ run test bs = Some (take (prefix_len test bs) bs, drop (prefix_len test bs) bs)
 abbrev pub is_digit : ℕ → Bool
 is_digit c = nat_le 48 c && nat_le c 57
 
+-- what stands behind the digits in front of a text
+abbrev pub behind_digits : List ℕ → List ℕ
+behind_digits bs = drop (prefix_len is_digit bs) bs
+
 -- the number of digits that follow n
 abbrev pub value_after : ℕ → List ℕ → ℕ
 value_after n [] = n

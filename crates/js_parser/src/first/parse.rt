@@ -5,35 +5,25 @@ ghost use Rattle.js_tree.specs.Tree as trees;
 ghost use Rattle.js_parser.specs.declared.first.FirstScript as script;
 ghost use Rattle.js_parser.specs.declared.first.FirstEntry as entry;
 ghost use Rattle.js_parser.specs.First.{IsItem, IsEntry, script_text, cluster_text, IsTextOf};
-ghost use Rattle.js_parser.specs.Reader.{read_script, read_cluster};
+ghost use Rattle.js_parser.specs.FirstReader.{read_script, read_cluster};
 
 use crate::first::{FirstEntries, FirstScript, read, tree};
 use js_tree::Script;
 use std::alloc::{AllocError, Global};
-use text_reader::{Cursor, Refusal};
+use text_reader::{Cursor, or_none};
 
-#[tactic(auto, unfolding(crate::specs::Reader::read_script))]
+#[tactic(auto, unfolding(crate::specs::FirstReader::read_script))]
 fn script_of(alloc: Global, text: &[u8]) -> Result<Option<FirstScript>, AllocError>
     ensures { IfOk result (λ found. found ≡ read_script text.now) }
 {
-    let mut left = Cursor::new(text);
-    match read::script(alloc, &mut left) {
-        Ok(script) => Ok(Some(script)),
-        Err(Refusal::NotOfForm) => Ok(None),
-        Err(Refusal::OutOfMemory) => Err(AllocError),
-    }
+    or_none(read::script(alloc, &mut Cursor::new(text)))
 }
 
-#[tactic(auto, unfolding(crate::specs::Reader::read_cluster))]
+#[tactic(auto, unfolding(crate::specs::FirstReader::read_cluster))]
 fn entries_of(alloc: Global, text: &[u8]) -> Result<Option<FirstEntries>, AllocError>
     ensures { IfOk result (λ found. found ≡ read_cluster text.now) }
 {
-    let mut left = Cursor::new(text);
-    match read::entries(alloc, &mut left) {
-        Ok(entries) => Ok(Some(entries)),
-        Err(Refusal::NotOfForm) => Ok(None),
-        Err(Refusal::OutOfMemory) => Err(AllocError),
-    }
+    or_none(read::entries(alloc, &mut Cursor::new(text)))
 }
 
 /// The script of the first grammar that the bytes are the text of, and None where they are that of none.
