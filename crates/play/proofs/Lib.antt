@@ -9,7 +9,6 @@ pub mod Arrives
 pub mod Loaded
 pub mod Loads
 pub mod Distinct
-pub mod ManifestLists
 pub mod ManifestForm
 pub mod ManifestLines
 pub mod ManifestLaws

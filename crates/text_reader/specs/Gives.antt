@@ -1,6 +1,6 @@
 -- What a function that reads ensures.
 use Rattle.std.specs.Prelude.{◌≡◌, ◌<◌, ◌^◌, ℕ, Bool, true, false, List}
-use Rattle.std.specs.Prelude.{Option, Some, None, Result, Ok, Err, alloc_error}
+use Rattle.std.specs.Prelude.{Option, Some, None, Result, Ok, Err, IfOk, IfSome, alloc_error}
 use Rattle.std.specs.declared.alloc.AllocError.{AllocError}
 use Rattle.text_reader.specs.declared.cursor.Refusal.{Refusal}
 use Rattle.text_reader.specs.declared.cursor.Refusal.TheVariants.{NotOfForm, OutOfMemory}
@@ -26,3 +26,11 @@ abbrev pub or_none : {A : Type 0} → Result A Refusal → Result (Option A) All
 or_none (Ok a) = Ok (Some a)
 or_none (Err NotOfForm) = Ok None
 or_none (Err OutOfMemory) = Err alloc_error
+
+-- what was read, where something was, is P
+abbrev pub IfRead : {A E : Type 0} → Result (Option A) E → (A → Type 0) → Type 0
+IfRead result P = IfOk result (λ found. IfSome found P)
+
+-- this is what was read, unless memory fails
+abbrev pub IsRead : {A E : Type 0} → Result (Option A) E → A → Type 0
+IsRead result x = IfOk result (λ found. found ≡ Some x)
