@@ -3,6 +3,10 @@
 use Rattle.std.specs.Prelude.{◌≡◌, ℕ, ◌+◌, List, [], ◌∷◌, ◌++◌}
 use Rattle.js_tree.specs.Tree
 
+-- the greatest number of a function
+abbrev pub last_function_number : ℕ
+last_function_number = 65535
+
 -- the functions of a tree, in the order of their first tokens
 abbrev mutual
   pub in_expr : Tree.Expr → List Tree.Func

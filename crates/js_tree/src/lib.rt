@@ -11,6 +11,6 @@ mod tests;
 mod tree;
 
 pub use tree::{
-    BinaryOp, Case, Cases, Elements, Expr, Exprs, ForInit, ForTarget, Func, Pair, Pairs, PostfixOp,
-    PrefixOp, Role, Script, Scripts, Stmt, Stmts, VarItem, VarItems,
+    BinaryOp, Case, Cases, Elements, Expr, Exprs, ForInit, ForTarget, Func, LAST_FUNCTION_NUMBER,
+    Pair, Pairs, PostfixOp, PrefixOp, Role, Script, Scripts, Stmt, Stmts, VarItem, VarItems,
 };

@@ -1,6 +1,9 @@
 use dl_text::{Names, Units};
 use sqlite_items::{Boxed, Items};
 
+/// The greatest number of a function.
+pub const LAST_FUNCTION_NUMBER: u32 = 65_535;
+
 /// A whole script: the statements and declarations of a program (ES3 section 14).
 #[derive(Drop)]
 pub struct Script {

@@ -7,7 +7,7 @@ use Rattle.std.proofs.lemmas.Bool.{eqb-true, eqb-false}
 use Rattle.std.proofs.Math.ListN.{length-set}
 use Rattle.dl_ports.specs.Files.{Files}
 use Rattle.js_parser.specs.declared.first.FirstEntry.{FirstEntry}
-use Rattle.js_parser.specs.Reader.{read_cluster}
+use Rattle.js_parser.specs.FirstReader.{read_cluster}
 use Rattle.play.specs.declared.manifest.ClusterLine.{ClusterLine}
 use Rattle.play.specs.declared.manifest.Manifest.{Manifest}
 use Rattle.play.specs.declared.table.Table.{Table}

@@ -9,7 +9,6 @@ pub mod ArrivalLemmas
 pub mod EntryLemmas
 pub mod LoadLemmas
 pub mod Distinct
-pub mod ManifestLists
 pub mod ManifestForm
 pub mod ManifestLines
 pub mod ManifestLaws

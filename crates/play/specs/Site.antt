@@ -13,7 +13,7 @@ use Rattle.js_parser.specs.declared.first.FirstItem.{FirstItem}
 use Rattle.js_parser.specs.declared.first.FirstItem.TheVariants as item
 use Rattle.js_parser.specs.declared.first.FirstEntry.{FirstEntry}
 use Rattle.js_parser.specs.declared.first.FirstScript.{FirstScript}
-use Rattle.js_parser.specs.Reader.{read_script, read_cluster}
+use Rattle.js_parser.specs.FirstReader.{read_script, read_cluster}
 use Rattle.play.specs.declared.manifest.ClusterLine.{ClusterLine}
 use Rattle.play.specs.declared.manifest.Manifest.{Manifest}
 

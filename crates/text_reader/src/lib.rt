@@ -8,9 +8,11 @@
 
 mod cursor;
 mod laws;
+mod list;
 mod numeral;
 #[cfg(test)]
 mod tests;
 
 pub use cursor::{Cursor, Refusal};
 pub use laws::decimals_read_back;
+pub use list::{ListReader, or_none};

@@ -1,6 +1,9 @@
 -- The first grammar as functions that read a text from its front.
-use Rattle.std.specs.Prelude.{ℕ, zero, suc, ◌+◌, Bool, not, ◌&&◌, nat_le, ◌==◌, if◌then◌else◌, length, List, [], ◌∷◌, ◌++◌, Option, Some, None, codes}
-use Rattle.text_reader.specs.Reader.{Found, Reader, ◌>>=◌, ◌>>◌, pure, refuse, either, skip, ended, one, run, decimal}
+use Rattle.std.specs.Prelude.{ℕ, Bool, not, ◌&&◌, nat_le, ◌==◌, if◌then◌else◌}
+use Rattle.std.specs.Prelude.{List, [], Option, codes}
+use Rattle.text_reader.specs.Reader.{Reader, ◌>>=◌, ◌>>◌, pure, refuse, either}
+use Rattle.text_reader.specs.Reader.{skip, ended, one, run, decimal, up_to, list_after, whole}
+use Rattle.js_tree.specs.Numbering.{last_function_number}
 use Rattle.js_parser.specs.declared.first.FirstStatement.{FirstStatement}
 use Rattle.js_parser.specs.declared.first.FirstStatement.TheVariants.{Call, Out}
 use Rattle.js_parser.specs.declared.first.FirstBody.{FirstBody}
@@ -11,13 +14,6 @@ use Rattle.js_parser.specs.declared.first.FirstItem.TheVariants.{Statement, Func
 use Rattle.js_parser.specs.declared.first.FirstScript.{FirstScript}
 use Rattle.js_parser.specs.declared.first.FirstEntry.{FirstEntry}
 
--- ---- lists
-
--- what `read` reads, again and again up to what `stop` reads, after those found; in fewer than so many turns
-unfoldable pub many : {A : Type 0} → Reader (Unit {0}) → Reader A → ℕ → List A → Reader (List A)
-many stop read zero found = refuse
-many stop read (suc n) found = either stop (pure found) (read >>= (λ x. many stop read n (found ++ x ∷ [])))
-
 -- ---- bytes and numbers
 
 abbrev pub is_letter : ℕ → Bool
@@ -27,7 +23,7 @@ abbrev pub is_plain : ℕ → Bool
 is_plain c = nat_le 32 c && (nat_le c 126 && (not (c == 34) && not (c == 92)))
 
 abbrev pub is_function_number : ℕ → Bool
-is_function_number k = nat_le 1 k && nat_le k 65535
+is_function_number k = nat_le 1 k && nat_le k last_function_number
 
 abbrev pub letter : Reader ℕ
 letter = one is_letter
@@ -58,9 +54,13 @@ call = do
 unfoldable pub statement : Reader FirstStatement
 statement = either (skip (codes "host.out(\"")) out call
 
+-- a statement, or the end of statements: a `}`
+abbrev pub next_statement : Reader (Option FirstStatement)
+next_statement = up_to (skip (codes "}")) statement
+
 -- statements and the `}` after them
 unfoldable pub statements : Reader (List FirstStatement)
-statements = λ bs. many (skip (codes "}")) statement (length bs + 1) [] bs
+statements = list_after [] next_statement
 
 abbrev pub stub : Reader FirstBody
 stub = do
@@ -97,9 +97,13 @@ statement_item = do
 unfoldable pub item : Reader FirstItem
 item = either (skip (codes "function ")) function_item statement_item
 
+-- an item, or the end of items: a line feed
+abbrev pub next_item : Reader (Option FirstItem)
+next_item = up_to (skip (codes "\n")) item
+
 -- items and the line feed after them
 unfoldable pub items : Reader (List FirstItem)
-items = λ bs. many (skip (10 ∷ [])) item (length bs + 1) [] bs
+items = list_after [] next_item
 
 unfoldable pub script : Reader FirstScript
 script = do
@@ -115,12 +119,13 @@ entry = do
   skip (codes ")\n")
   pure (record { number = k; body = ss })
 
-unfoldable pub entries : Reader (List FirstEntry)
-entries = λ bs. many ended entry (length bs + 1) [] bs
+-- an entry, or the end of the text
+abbrev pub next_entry : Reader (Option FirstEntry)
+next_entry = up_to ended entry
 
-abbrev pub whole : {A : Type 0} → Found A → Option A
-whole (Some p) = Some p.0
-whole None = None
+-- entries up to the end of the text
+unfoldable pub entries : Reader (List FirstEntry)
+entries = list_after [] next_entry
 
 -- the script of a text, where it is one of the first grammar
 unfoldable pub read_script : List ℕ → Option FirstScript
