@@ -5,7 +5,8 @@ use std::alloc::{AllocError, Global};
 use std::marker::Model;
 use std::rc::Rc;
 
-/// A list that its copies share, so that a copy takes constant time. What one of them adds is not seen by the others.
+/// A list that its copies share, so that a copy takes constant time. What one of them adds is not
+/// seen by the others.
 #[derive(Debug, Drop)]
 pub(crate) struct Shared<T> {
     alloc: Global,
@@ -61,7 +62,8 @@ impl<T: Drop> Shared<T> {
 }
 
 impl<T: TryCopy + Drop> Shared<T> {
-    /// Adds an item at the end, for this owner alone. Where there are others, it gets items of its own first.
+    /// Adds an item at the end, for this owner alone. Where there are others, it gets items of its
+    /// own first.
     pub(crate) fn push(&mut self, item: T) -> Result<(), AllocError>
         ensures ok { OnOk result (self.new ≡ self.old ++ item ∷ []) }
         ensures err { OnErr result (self.new ≡ self.old) }

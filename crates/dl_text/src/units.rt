@@ -42,7 +42,8 @@ impl Units {
         self.units.push(unit)
     }
 
-    /// Adds the one or two units of a code point at the end; a surrogate is its own. A refusal may leave the first of two.
+    /// Adds the one or two units of a code point at the end; a surrogate is its own. A refusal may
+    /// leave the first of two.
     pub fn push_code_point(&mut self, code_point: u32) -> Result<(), AllocError>
         requires { code_point < 0x11_0000 }
         ensures { OnOk result (self.new ≡ self.old ++ encode_utf16 code_point) }

@@ -1,4 +1,5 @@
--- The first grammar: what its scripts and cluster files hold, the text of each, and the tree of each.
+-- The first grammar: what its scripts and cluster files hold, the text of each, and the tree of
+-- each.
 --
 --   script     items, then one line feed
 --   item       a statement or a function
@@ -7,8 +8,8 @@
 --              or   function N(){return eval($dl_get(K)).apply(this,arguments);}
 --   entry      K (function(){ statements }) and one line feed
 --
--- N is a lower-case letter, CHARS are printable ASCII characters without `"` and the backslash, K is
--- a function number.
+-- N is a lower-case letter, CHARS are printable ASCII characters without `"` and the backslash, K
+-- is a function number.
 use Rattle.std.specs.Prelude.{◌≡◌, ◌≢◌, ◌≤◌, ℕ, List, [], ◌∷◌, ◌++◌, Some, codes, All}
 use Rattle.std.specs.List.{flat_map}
 use Rattle.std.specs.Fmt.{decimal}
@@ -95,6 +96,10 @@ host_name = codes "host"
 abbrev pub out_name : Tree.Name
 out_name = codes "out"
 
+-- `host.out`
+abbrev pub host_out : Tree.Expr
+host_out = Tree.Dot (Tree.Ident host_name) out_name
+
 abbrev pub apply_name : Tree.Name
 apply_name = codes "apply"
 
@@ -104,8 +109,7 @@ arguments_name = codes "arguments"
 abbrev pub statement_tree : FirstStatement → Tree.Stmt
 statement_tree (Call letter) = Tree.Do (Tree.Call (Tree.Ident (letter ∷ [])) Tree.NoExprs)
 statement_tree (Out characters) =
-    Tree.Do (Tree.Call (Tree.Dot (Tree.Ident host_name) out_name)
-    (Tree.MoreExprs (Tree.Str characters) Tree.NoExprs))
+    Tree.Do (Tree.Call host_out (Tree.MoreExprs (Tree.Str characters) Tree.NoExprs))
 
 abbrev pub statements_tree : List FirstStatement → Tree.Stmts
 statements_tree [] = Tree.NoStmts

@@ -1,6 +1,7 @@
 -- The manifest `site.txt` of a site of format 1, as far as the first grammar goes: one script, and
 -- `-` at every entry.
-use Rattle.std.specs.Prelude.{◌≡◌, ◌≢◌, ◌≤◌, ◌^◌, ◌<◌, ℕ, List, [], ◌∷◌, ◌++◌, codes, map, All, nat_eq}
+use Rattle.std.specs.Prelude.{◌≡◌, ◌≢◌, ◌≤◌, ◌^◌, ◌<◌, ℕ, nat_eq}
+use Rattle.std.specs.Prelude.{List, [], ◌∷◌, ◌++◌, codes, map, All}
 use Rattle.std.specs.List.{flat_map, IsDistinct}
 use Rattle.std.specs.Fmt.{decimal}
 use Rattle.js_parser.specs.First.{IsFunctionNumber}

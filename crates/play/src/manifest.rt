@@ -120,7 +120,8 @@ mod tests {
             b"doloto site 1\nform 2\nscript 1 117 1\ncluster 1 33\nentry 2 -\nend\n",
             b"doloto site 1\nform 1\nscript 1 117 1\ncluster 1 33\nentry 2 -\nentry 2 -\nend\n",
             b"doloto site 1\nform 1\nscript 1 117 2\ncluster 1 33\nentry 2 -\nend\n",
-            b"doloto site 1\nform 1\nscript 1 117 1\ncluster 2 33\nentry 2 -\ncluster 2 33\nentry 3 -\nend\n",
+            b"doloto site 1\nform 1\nscript 1 117 1\ncluster 2 33\nentry 2 -\ncluster 2 33\n\
+            entry 3 -\nend\n",
             b"doloto site 1\nform 1\nscript 1 65536 1\ncluster 1 33\nentry 2 -\nend\n",
             b"doloto site 1\nform 1\nscript 1 0117 1\ncluster 1 33\nentry 2 -\nend\n",
             b"doloto site 1\nform 1\nscript 1 117 1\ncluster 1 33\nend\n",

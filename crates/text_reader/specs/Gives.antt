@@ -19,7 +19,8 @@ Eats found false old new = (found ≡ None) × (new ≡ old)
 
 -- each answer of a test of bytes is that of `test`
 abbrev pub Decides : (ℕ → Bool → Type 0) → (ℕ → Bool) → Type 0
-Decides answers test = (byte : ℕ) (answer : Bool) → byte < 2 ^ 8 → answers byte answer → answer ≡ test byte
+Decides answers test =
+    (byte : ℕ) (answer : Bool) → byte < 2 ^ 8 → answers byte answer → answer ≡ test byte
 
 -- what was read, or None where the text is not of the form
 abbrev pub or_none : {A : Type 0} → Result A Refusal → Result (Option A) AllocError

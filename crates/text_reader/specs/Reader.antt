@@ -80,7 +80,8 @@ abbrev pub is_numeral : List ℕ → Bool
 is_numeral [] = false
 is_numeral (d ∷ ds) = (not (d == 48) || length ds == 0) && nat_lt (value_after 0 (d ∷ ds)) (2 ^ 32)
 
--- a number by its digits: no digit, a zero in front of others and a number that is too great are refused
+-- a number by its digits: no digit, a zero in front of others and a number that is too great are
+-- refused
 unfoldable pub number_of : List ℕ → Option ℕ
 number_of ds = if is_numeral ds then Some (value_after 0 ds) else None
 

@@ -144,8 +144,8 @@ impl<'a> Cursor<'a> {
         front
     }
 
-    /// Takes a decimal number below 2^32 with no zero in front of other digits. Where it refuses, the
-    /// digits that it read are taken too.
+    /// Takes a decimal number below 2^32 with no zero in front of other digits. Where it refuses,
+    /// the digits are taken too.
     #[tactic(auto, unfolding(crate::specs::Reader::decimal))]
     pub fn decimal(&mut self) -> Result<u32, Refusal>
         ensures gives { Gives (reader.decimal self.old) result self.new }

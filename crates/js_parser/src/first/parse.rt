@@ -28,7 +28,8 @@ fn entries_of(alloc: Global, text: &[u8]) -> Result<Option<FirstEntries>, AllocE
     or_none(read::entries(alloc, &mut Cursor::new(text)))
 }
 
-/// The script of the first grammar that the bytes are the text of, and None where they are that of none.
+/// The script of the first grammar that the bytes are the text of, and None where they are that of
+/// none.
 pub fn read_first_script(alloc: Global, text: &[u8]) -> Result<Option<FirstScript>, AllocError>
     ensures value { IfOk result (λ found. found ≡ read_script text.now) }
     ensures sound { IfRead result (IsScriptOf text.now) }
@@ -37,8 +38,8 @@ pub fn read_first_script(alloc: Global, text: &[u8]) -> Result<Option<FirstScrip
     script_of(alloc, text)
 }
 
-/// The entries of the cluster file that the bytes are, and None where they are no cluster file of the
-/// first grammar.
+/// The entries of the cluster file that the bytes are, and None where they are no cluster file of
+/// the first grammar.
 pub fn read_first_cluster(alloc: Global, text: &[u8]) -> Result<Option<FirstEntries>, AllocError>
     ensures value { IfOk result (λ found. found ≡ read_cluster text.now) }
     ensures sound { IfRead result (IsClusterOf text.now) }
@@ -59,7 +60,8 @@ pub fn parse_first(alloc: Global, text: &str) -> Result<Option<Script>, AllocErr
     }
 }
 
-/// Each script of the first grammar is read from its text, and what is read is a script with this text.
+/// Each script of the first grammar is read from its text, and what is read is a script with this
+/// text.
 pub fn scripts_read_back()
     ensures read { (s : script.FirstScript) → All IsItem s.items
         → read_script (script_text s) ≡ Some s }
@@ -67,7 +69,8 @@ pub fn scripts_read_back()
         → IsScriptOf bytes s }
 {}
 
-/// Each cluster file of the first grammar is read from its text, and what is read is a cluster file with this text.
+/// Each cluster file of the first grammar is read from its text, and what is read is a cluster file
+/// with this text.
 pub fn clusters_read_back()
     ensures read { (es : List entry.FirstEntry) → All IsEntry es
         → read_cluster (cluster_text es) ≡ Some es }
