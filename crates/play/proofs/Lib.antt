@@ -19,3 +19,5 @@ pub mod FunctionLemmas
 pub mod sim
 pub mod LazinessLemmas
 pub mod HeadlineLemmas
+pub mod Reading
+pub mod ReportCalls

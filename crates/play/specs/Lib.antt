@@ -18,3 +18,6 @@ pub mod Answers
 pub mod Laws
 pub mod Laziness
 pub mod Headline
+pub mod RowsHeadline
+pub mod RowsPutBack
+pub mod RowsLoader
