@@ -20,4 +20,6 @@ pub mod Laziness
 pub mod Headline
 pub mod RowsHeadline
 pub mod RowsPutBack
+pub mod RowsValue
+pub mod RowsSite
 pub mod RowsLoader

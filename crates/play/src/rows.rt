@@ -2,18 +2,20 @@
 //! what holds and of what does not.
 
 ghost use Rattle.std.specs.Prelude.{◌≡◌, ℕ, List, [], ◌∷◌, Option, Some, None, true, false, codes};
+ghost use Rattle.js_parser.specs.declared.first.FirstStatement.TheVariants.{Call, Out};
 ghost use Rattle.js_tree.specs.Tree.{Script, MoreStmts, Declare};
 ghost use Rattle.js_tree.specs.declared.tree.Role.TheVariants.{Wrapper, Late};
 ghost use Rattle.play.specs.declared.outcome.End.TheVariants as end;
 ghost use Rattle.play.specs.declared.outcome.FirstFile.TheVariants as file;
 ghost use Rattle.play.specs.Headline.{original_calls, calls, marked_calls, end_text, EndsWithin, PutsBackTo};
 ghost use Rattle.play.specs.Laziness.{lazy_lines};
-ghost use Rattle.play.specs.Laws.{seen, times};
+ghost use Rattle.play.specs.Laws.{IsCut, IsPrefix, NeedsFollow, ending, seen, times};
+ghost use Rattle.play.specs.Laws as laws;
 ghost use Rattle.play.specs.Loader.{Absent, Asked, Here, Need, Arrive, Lose, Cut, fresh, step};
 ghost use Rattle.play.specs.Loader as loader;
 ghost use Rattle.play.specs.ManifestReader.{read_manifest};
-ghost use Rattle.play.specs.Page.{original, written};
-ghost use Rattle.play.specs.Played.{Gives, Lacks, Refuses, cluster_of, played};
+ghost use Rattle.play.specs.Page.{no_entries, original, start, written};
+ghost use Rattle.play.specs.Played.{Gives, Lacks, Refuses, cluster_of, is_page, played, played_page};
 ghost use Rattle.play.specs.PutBack.{back, PutsBack};
 ghost use Rattle.play.specs.Report.{CallLine, UncaughtLine, IdleLine, EventLine, WaitLine, AskLine, HereLine, LostLine, CutLine, line_text, lines_text};
 ghost use Rattle.play.specs.Rows as rows;
@@ -21,9 +23,12 @@ ghost use Rattle.play.specs.Rows.{answered, at, out_line, out_mark};
 ghost use Rattle.play.specs.RowsHeadline as headline;
 ghost use Rattle.play.specs.RowsLoader as load;
 ghost use Rattle.play.specs.RowsPutBack as put_back;
-ghost use Rattle.play.specs.Run.{Uncaught, Idle, Entered, Needed};
-ghost use Rattle.play.specs.Site.{Accepted, cluster_file, entries, read_script_file, site_tree};
-ghost use Rattle.play.specs.Value.{ShownUndefined, ShownText, ShownObject};
+ghost use Rattle.play.specs.RowsSite as site;
+ghost use Rattle.play.specs.RowsValue as value;
+ghost use Rattle.play.specs.Run.{Uncaught, Idle, Entered, Needed, OutOfSteps, IsStuck};
+ghost use Rattle.play.specs.Site.{Accepted, cluster_file, cluster_name, entries, entry_among, late_function, line_of, manifest_name, read_script_file, script_name, site_tree, stub_numbers};
+ghost use Rattle.play.specs.Site as site_file;
+ghost use Rattle.play.specs.Value.{Error, Text, Undefined, all_passed, all_shown, ShownUndefined, ShownText, ShownObject};
 ghost use Rattle.play.specs.Walk.{Ended, RanOut, Broke, end_of, walk};
 
 /// The files of `examples/first/site` are read as these values.
@@ -273,4 +278,235 @@ pub fn report_lines()
     ensures ended { end_text end.Ended 35 ≡ codes "end ended 35\n" }
     ensures out_of_steps { end_text end.OutOfSteps 10000000 ≡ codes "end out-of-steps 10000000\n" }
     ensures in_order { lines_text (WaitLine 1 ∷ IdleLine ∷ []) ≡ codes "wait 1\nidle\n" }
+{}
+
+/// Values as the host sees them: an object by its rank, in the order of first passing.
+pub fn shown_values()
+    ensures ranks { all_shown [] (Error 5 ∷ Error 3 ∷ Text (codes "a") ∷ Undefined ∷ Error 5 ∷ [])
+        ≡ ShownObject 1 ∷ ShownObject 2 ∷ ShownText (codes "a") ∷ ShownUndefined
+            ∷ ShownObject 1 ∷ [] }
+    ensures passed_before { all_shown (3 ∷ []) (Error 5 ∷ Error 3 ∷ [])
+        ≡ ShownObject 2 ∷ ShownObject 1 ∷ [] }
+    ensures passed_after { all_passed (3 ∷ [])
+        (Error 5 ∷ Text (codes "a") ∷ Error 3 ∷ Undefined ∷ Error 7 ∷ []) ≡ 3 ∷ 5 ∷ 7 ∷ [] }
+    ensures second_first { value.marks_of value.second_first
+        ≡ at (value.shows (ShownObject 1 ∷ [])) 0
+        ∷ at (value.shows (ShownObject 2 ∷ ShownObject 1 ∷ [])) 0
+        ∷ at (Uncaught (ShownObject 2)) 0 ∷ [] }
+    ensures thrown_first { value.marks_of value.thrown_first
+        ≡ at (Uncaught (ShownObject 1)) 0
+        ∷ at (value.shows (ShownObject 2 ∷ ShownObject 1 ∷ [])) 0 ∷ [] }
+{}
+
+/// Runs of small scripts: the later function counts, an exception ends the script, and beats and
+/// needs of stubs.
+pub fn small_scripts()
+    ensures later_counts { rows.marks (value.run_with [] (value.function 102 []
+        ∷ value.function 102 (Out (codes "two") ∷ []) ∷ value.calls 102 ∷ []) 100)
+        ≡ at (Entered 3 1) 5 ∷ at (out_mark (codes "two")) 11 ∷ at (Idle 1) 11 ∷ [] }
+    ensures declared_below { rows.marks (value.run_with [] (value.calls 102 ∷ value.function 102 []
+        ∷ []) 100) ≡ at (Entered 1 1) 5 ∷ at (Idle 1) 5 ∷ [] }
+    ensures exception { rows.marks (value.run_with [] (value.outs (codes "a") ∷ value.calls 113
+        ∷ value.outs (codes "b") ∷ []) 100)
+        ≡ at (out_mark (codes "a")) 7 ∷ at (Uncaught (ShownObject 1)) 10 ∷ at (Idle 0) 10 ∷ [] }
+    ensures exception_ends { end_of (value.run_with [] (value.calls 113 ∷ []) 4) ≡ Ended 4 }
+    ensures exception_cut { end_of (value.run_with [] (value.calls 113 ∷ []) 3) ≡ RanOut 3 }
+    ensures in_an_entry { rows.marks (value.run_with (Call 113 ∷ Out (codes "a") ∷ [])
+        (value.stub 103 2 ∷ value.calls 103 ∷ value.outs (codes "b") ∷ []) 100)
+        ≡ at (Entered 2 1) 5 ∷ at (Needed 2) 9 ∷ at (Uncaught (ShownObject 1)) 16
+        ∷ at (Idle 1) 16 ∷ [] }
+    ensures called_twice { rows.marks (value.run_with (Call 102 ∷ [])
+        (value.function 102 [] ∷ value.stub 103 2 ∷ value.calls 103 ∷ value.calls 103 ∷ []) 100)
+        ≡ at (Entered 2 1) 5 ∷ at (Needed 2) 9 ∷ at (Entered 1 2) 17
+        ∷ at (Entered 2 3) 21 ∷ at (Needed 2) 25 ∷ at (Entered 1 4) 33 ∷ at (Idle 4) 33 ∷ [] }
+    ensures host_call { end_of (value.run_with [] (value.outs (codes "a") ∷ []) 7) ≡ Ended 7 }
+    ensures host_call_cut { rows.marks (value.run_with [] (value.outs (codes "a") ∷ []) 6) ≡ [] }
+    ensures no_entry { end_of (written no_entries (site_tree [] (value.stub 103 2
+        ∷ value.calls 103 ∷ [])) 100) ≡ Broke }
+    ensures nothing { end_of (value.run_with [] [] 1) ≡ Ended 1 }
+{}
+
+/// Cuts, fronts and ends, and where a need may stand.
+pub fn trace_relations()
+    ensures a_front { IsPrefix {A = ℕ} (1 ∷ 2 ∷ []) (1 ∷ 2 ∷ 3 ∷ []) }
+    ensures no_back { IsPrefix {A = ℕ} (2 ∷ 3 ∷ []) (1 ∷ 2 ∷ 3 ∷ []) → ⊥ }
+    ensures not_longer { IsPrefix {A = ℕ} (1 ∷ 2 ∷ []) (1 ∷ []) → ⊥ }
+    ensures ended { ending (value.entered 1 value.ended) ≡ laws.Ended }
+    ensures ran_out { ending (value.entered 1 (OutOfSteps start)) ≡ laws.RanOut }
+    ensures broke { ending (value.entered 1 (IsStuck start)) ≡ laws.Broke }
+    ensures cut { IsCut (value.entered 1 (OutOfSteps start)) (value.entered 1 value.ended) }
+    ensures cut_end { IsCut value.ended (OutOfSteps start) → ⊥ }
+    ensures cut_stuck { IsCut (IsStuck start) value.ended → ⊥ }
+    ensures cut_mark { IsCut (value.entered 1 value.ended) (value.entered 2 value.ended) → ⊥ }
+    ensures cut_behind { IsCut (value.entered 1 (value.entered 2 value.ended))
+        (value.entered 1 value.ended) → ⊥ }
+    ensures need_follows { NeedsFollow (value.entered 1 (value.needed 1 value.ended)) }
+    ensures need_of_another { NeedsFollow (value.entered 1 (value.needed 2 value.ended)) → ⊥ }
+    ensures need_first { NeedsFollow (value.needed 1 value.ended) → ⊥ }
+    ensures need_twice { NeedsFollow (value.entered 1 (value.needed 1 (value.needed 1 value.ended)))
+        → ⊥ }
+{}
+
+/// The page, with a line feed and without.
+pub fn pages()
+    ensures page { is_page (codes "{\"host\":[\"out\"]}") ≡ true }
+    ensures with_line_feed { is_page (codes "{\"host\":[\"out\"]}\n") ≡ true }
+    ensures two_line_feeds { is_page (codes "{\"host\":[\"out\"]}\n\n") ≡ false }
+    ensures line_feed_first { is_page (codes "\n{\"host\":[\"out\"]}") ≡ false }
+    ensures space { is_page (codes "{\"host\": [\"out\"]}") ≡ false }
+    ensures empty { is_page [] ≡ false }
+{}
+
+/// The text of a manifest: which are read, as what, and which are refused.
+pub fn manifest_texts()
+    ensures least { site.Reads (codes "script 1 0 -\nend\n") (site.manifest 0 [] []) }
+    ensures numbers { site.Reads (codes "script 1 65535 9,65535,1\nend\n")
+        (site.manifest 65535 (9 ∷ 65535 ∷ 1 ∷ []) []) }
+    ensures clusters { site.Reads
+        (codes "script 1 5 -\ncluster 2 0\nentry 2 -\nentry 7 -\ncluster 4294967295 2147483648\nentry 3 -\nend\n")
+        (site.manifest 5 [] (site.line 2 0 (2 ∷ 7 ∷ [])
+            ∷ site.line 4294967295 2147483648 (3 ∷ []) ∷ [])) }
+    ensures long_script { site.Refuses (codes "script 1 65536 -\nend\n") }
+    ensures number_zero { site.Refuses (codes "script 1 5 0\nend\n") }
+    ensures great_number { site.Refuses (codes "script 1 5 65536\nend\n") }
+    ensures no_numbers { site.Refuses (codes "script 1 5 \nend\n") }
+    ensures comma_last { site.Refuses (codes "script 1 5 1,\nend\n") }
+    ensures spaced { site.Refuses (codes "script 1 5 1, 2\nend\n") }
+    ensures zero_before { site.Refuses (codes "script 1 05 -\nend\n") }
+    ensures sign { site.Refuses (codes "script 1 5 +1\nend\n") }
+    ensures other_script { site.Refuses (codes "script 2 5 -\nend\n") }
+    ensures no_end { site.Refuses (codes "script 1 5 -\n") }
+    ensures cut_end { site.Refuses (codes "script 1 5 -\nend") }
+    ensures behind_the_end { site.Refuses (codes "script 1 5 -\nend\n\n") }
+    ensures carriage_return { site.Refuses (codes "script 1 5 -\r\nend\n") }
+    ensures other_form { read_manifest (codes "doloto site 1\nform 2\nscript 1 5 -\nend\n") ≡ None }
+    ensures other_site { read_manifest (codes "doloto site 2\nform 1\nscript 1 5 -\nend\n") ≡ None }
+    ensures empty { read_manifest [] ≡ None }
+{}
+
+/// Clusters and entries in the text of a manifest.
+pub fn manifest_clusters()
+    ensures no_entry { site.Refuses (codes "script 1 5 -\ncluster 1 5\nend\n") }
+    ensures cluster_zero { site.Refuses (codes "script 1 5 -\ncluster 0 5\nentry 2 -\nend\n") }
+    ensures great_cluster { site.Refuses
+        (codes "script 1 5 -\ncluster 4294967296 5\nentry 2 -\nend\n") }
+    ensures long_cluster { site.Refuses
+        (codes "script 1 5 -\ncluster 1 2147483649\nentry 2 -\nend\n") }
+    ensures entry_zero { site.Refuses (codes "script 1 5 -\ncluster 1 5\nentry 0 -\nend\n") }
+    ensures greatest_entry { site.Reads (codes "script 1 5 1\ncluster 1 5\nentry 65535 -\nend\n")
+        (site.manifest 5 (1 ∷ []) (site.line 1 5 (65535 ∷ []) ∷ [])) }
+    ensures great_entry { site.Refuses (codes "script 1 5 -\ncluster 1 5\nentry 65536 -\nend\n") }
+    ensures entries_fall { site.Refuses
+        (codes "script 1 5 -\ncluster 1 5\nentry 3 -\nentry 2 -\nend\n") }
+    ensures clusters_fall { site.Refuses
+        (codes "script 1 5 -\ncluster 2 5\nentry 2 -\ncluster 1 5\nentry 3 -\nend\n") }
+    ensures cluster_again { site.Refuses
+        (codes "script 1 5 -\ncluster 2 5\nentry 2 -\ncluster 2 5\nentry 3 -\nend\n") }
+    ensures entry_again { site.Refuses
+        (codes "script 1 5 -\ncluster 1 5\nentry 2 -\ncluster 2 5\nentry 2 -\nend\n") }
+    ensures plain_again { site.Refuses (codes "script 1 5 2\ncluster 1 5\nentry 2 -\nend\n") }
+    ensures number_again { site.Refuses (codes "script 1 5 2,3,2\nend\n") }
+    ensures entry_first { site.Refuses (codes "script 1 5 -\nentry 2 -\ncluster 1 5\nend\n") }
+    ensures other_mark { site.Refuses (codes "script 1 5 -\ncluster 1 5\nentry 2 1\nend\n") }
+{}
+
+/// The names of a site's files.
+pub fn file_names()
+    ensures manifest { manifest_name (codes "site") ≡ codes "site/site.txt" }
+    ensures with_slash { manifest_name (codes "site/") ≡ codes "site//site.txt" }
+    ensures script { script_name (codes "a b") ≡ codes "a b/s1.js" }
+    ensures cluster { cluster_name (codes "site") 12 ≡ codes "site/c12.txt" }
+    ensures last_cluster { cluster_name (codes ".") 4294967295 ≡ codes "./c4294967295.txt" }
+{}
+
+/// Which scripts fit a manifest, and the numbers of their functions.
+pub fn script_files()
+    ensures fits { site.read_by 117 (1 ∷ []) (site.line 1 33 (2 ∷ []) ∷ []) ≡ Some rows.items }
+    ensures listed_later { site.read_by 117 (9 ∷ [])
+        (site.line 1 33 (3 ∷ 4 ∷ []) ∷ site.line 5 0 (1 ∷ 2 ∷ 7 ∷ []) ∷ []) ≡ Some rows.items }
+    ensures shorter { site.read_by 116 (1 ∷ []) (site.line 1 33 (2 ∷ []) ∷ []) ≡ None }
+    ensures longer { site.read_by 118 (1 ∷ []) (site.line 1 33 (2 ∷ []) ∷ []) ≡ None }
+    ensures number_less { site.read_by 117 [] (site.line 1 33 (2 ∷ []) ∷ []) ≡ None }
+    ensures number_more { site.read_by 117 (1 ∷ 3 ∷ []) (site.line 1 33 (2 ∷ []) ∷ []) ≡ None }
+    ensures not_listed { site.read_by 117 (1 ∷ []) (site.line 1 33 (3 ∷ []) ∷ []) ≡ None }
+    ensures no_cluster { site.read_by 117 (1 ∷ []) [] ≡ None }
+    ensures not_of_grammar { read_script_file (site.manifest 5 [] []) (codes "f() ;") ≡ None }
+    ensures stubs_in_order { stub_numbers (value.stub 103 7 ∷ value.calls 103
+        ∷ value.function 102 [] ∷ value.stub 104 2 ∷ value.stub 105 7 ∷ []) ≡ 7 ∷ 2 ∷ 7 ∷ [] }
+    ensures numbers_in_order { site.numbers (4 ∷ 9 ∷ []) (value.function 102 [] ∷ value.stub 103 2
+        ∷ value.calls 102 ∷ value.function 104 [] ∷ []) ≡ 4 ∷ 2 ∷ 9 ∷ [] }
+{}
+
+/// The cluster that lists an entry, which cluster files are accepted, and the function of an entry.
+pub fn cluster_files()
+    ensures first_line { line_of (site.line 1 5 (2 ∷ 4 ∷ []) ∷ site.line 3 6 (5 ∷ []) ∷ []) 4
+        ≡ Some (site.line 1 5 (2 ∷ 4 ∷ [])) }
+    ensures later_line { line_of (site.line 1 5 (2 ∷ 4 ∷ []) ∷ site.line 3 6 (5 ∷ []) ∷ []) 5
+        ≡ Some (site.line 3 6 (5 ∷ [])) }
+    ensures no_line { line_of (site.line 1 5 (2 ∷ 4 ∷ []) ∷ site.line 3 6 (5 ∷ []) ∷ []) 3 ≡ None }
+    ensures missing { cluster_file rows.no_files rows.folder (site.line 1 33 (2 ∷ []))
+        ≡ site_file.Absent }
+    ensures of_another { cluster_file rows.files rows.folder (site.line 2 33 (2 ∷ []))
+        ≡ site_file.Absent }
+    ensures accepted { site.read_cluster_file rows.cluster_bytes (site.line 1 33 (2 ∷ []))
+        ≡ Accepted (rows.entry ∷ []) }
+    ensures shorter { site.read_cluster_file rows.cluster_bytes (site.line 1 32 (2 ∷ []))
+        ≡ site_file.Refused }
+    ensures longer { site.read_cluster_file rows.cluster_bytes (site.line 1 34 (2 ∷ []))
+        ≡ site_file.Refused }
+    ensures other_entry { site.read_cluster_file rows.cluster_bytes (site.line 1 33 (3 ∷ []))
+        ≡ site_file.Refused }
+    ensures entry_less { site.read_cluster_file rows.cluster_bytes (site.line 1 33 (2 ∷ 3 ∷ []))
+        ≡ site_file.Refused }
+    ensures not_of_grammar { site.read_cluster_file (codes "2 (function(){}) \n")
+        (site.line 1 18 (2 ∷ [])) ≡ site_file.Refused }
+    ensures second_entry { entry_among (record { number = 2; body = Call 102 ∷ [] }
+        ∷ record { number = 3; body = Call 103 ∷ [] } ∷ []) 3
+        ≡ Some (late_function 3 (record { number = 3; body = Call 103 ∷ [] })) }
+    ensures of_no_entry { entry_among (record { number = 2; body = [] } ∷ []) 3 ≡ None }
+{}
+
+/// What is played for files that are lacking or refused, and the names that are asked.
+pub fn played_files()
+    ensures both { played (site.two_files (site.fifth_file site.fifth_cluster
+        (site.first_file site.first_cluster rows.no_files))) rows.folder headline.page 100
+        ≡ answered (Gives (codes "wait 5\nask 5\nhere 5\ncall out \"b\"\nwait 1\nask 1\nhere 1\ncall out \"b\"\nidle\nend ended 49\n") end.Ended)
+        (site.asked_script (codes "site/c5.txt" ∷ codes "site/c1.txt" ∷ [])) }
+    ensures not_needed { played (site.two_files (site.fifth_file site.fifth_cluster rows.no_files))
+        rows.folder headline.page 19
+        ≡ answered (Gives (codes "wait 5\nask 5\nhere 5\ncall out \"b\"\nend out-of-steps 19\n")
+            end.OutOfSteps)
+        (site.asked_script (codes "site/c5.txt" ∷ [])) }
+    ensures none { played (site.two_files rows.no_files) rows.folder headline.page 100
+        ≡ answered (Lacks (codes "site/c5.txt")) (site.asked_script (codes "site/c5.txt" ∷ [])) }
+    ensures second_lacks { played (site.two_files (site.fifth_file site.fifth_cluster rows.no_files))
+        rows.folder headline.page 100 ≡ answered (Lacks (codes "site/c1.txt"))
+        (site.asked_script (codes "site/c5.txt" ∷ codes "site/c1.txt" ∷ [])) }
+    ensures cluster_refused { played (site.two_files (site.fifth_file site.first_cluster
+        (site.first_file site.first_cluster rows.no_files))) rows.folder headline.page 100
+        ≡ answered (Refuses (file.Cluster 5)) (site.asked_script (codes "site/c5.txt" ∷ [])) }
+    ensures second_refused { played (site.two_files (site.fifth_file site.fifth_cluster
+        (site.first_file site.fifth_cluster rows.no_files))) rows.folder headline.page 100
+        ≡ answered (Refuses (file.Cluster 1))
+        (site.asked_script (codes "site/c5.txt" ∷ codes "site/c1.txt" ∷ [])) }
+    ensures script_refused { played (rows.with_file (codes "site/s1.js") rows.script_bytes
+        (site.two_files rows.no_files)) rows.folder headline.page 100
+        ≡ answered (Refuses file.Script) (site.asked_script []) }
+    ensures no_script { played (rows.with_file (codes "site/site.txt") site.two_manifest
+        rows.no_files) rows.folder headline.page 100
+        ≡ answered (Lacks (codes "site/s1.js")) (site.asked_script []) }
+    ensures manifest_refused { played (rows.with_file (codes "site/site.txt") site.two_script
+        rows.no_files) rows.folder headline.page 100
+        ≡ answered (Refuses file.Manifest) (codes "site/site.txt" ∷ []) }
+    ensures no_manifest { played rows.no_files rows.folder headline.page 100
+        ≡ answered (Lacks (codes "site/site.txt")) (codes "site/site.txt" ∷ []) }
+    ensures page_refused { played rows.files rows.folder (codes "{}") 100
+        ≡ answered (Refuses file.Page) [] }
+    ensures no_page { played_page rows.files rows.folder (codes "page.json") 100
+        ≡ answered (Lacks (codes "page.json")) (codes "page.json" ∷ []) }
+    ensures page_first { played_page (rows.with_file (codes "p") headline.page rows.no_files)
+        rows.folder (codes "p") 100
+        ≡ answered (Lacks (codes "site/site.txt")) (codes "p" ∷ codes "site/site.txt" ∷ []) }
+    ensures page_refused_first { played_page (rows.with_file (codes "p") [] rows.files)
+        rows.folder (codes "p") 100 ≡ answered (Refuses file.Page) (codes "p" ∷ []) }
 {}
