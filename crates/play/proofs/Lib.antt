@@ -21,3 +21,4 @@ pub mod LazinessLemmas
 pub mod HeadlineLemmas
 pub mod Reading
 pub mod ReportCalls
+pub mod WorkedReports

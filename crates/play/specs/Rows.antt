@@ -12,9 +12,9 @@ use Rattle.js_parser.specs.declared.first.FirstItem.TheVariants.{Statement, Func
 use Rattle.play.specs.declared.manifest.Manifest.{Manifest}
 use Rattle.play.specs.Site.{site_tree, late_function}
 use Rattle.play.specs.Played.{Answer, Answered}
-use Rattle.play.specs.Value.{Shown, ShownText}
+use Rattle.play.specs.Value.{ShownText}
 use Rattle.play.specs.Report.{Line, CallLine, IdleLine, WaitLine, AskLine, HereLine}
-use Rattle.play.specs.Run.{Mark, Called, Uncaught, Idle, Entered, Needed, Trace, Say, End, OutOfSteps, IsStuck}
+use Rattle.play.specs.Run.{Mark, Called, Trace, Say, End, OutOfSteps, IsStuck}
 
 -- ---- its files
 

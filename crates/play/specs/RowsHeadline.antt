@@ -1,7 +1,6 @@
 -- Reports of the worked site, of what its original allows and of what it does not.
-use Rattle.std.specs.Prelude.{◌≡◌, ℕ, List, [], ◌∷◌, ◌++◌, codes}
+use Rattle.std.specs.Prelude.{ℕ, List, [], ◌∷◌, ◌++◌, codes}
 use Rattle.play.specs.declared.outcome.End.{End}
-use Rattle.play.specs.declared.outcome.End.TheVariants as end
 use Rattle.play.specs.Report.{Line}
 use Rattle.play.specs.Headline.{ShowsOriginal}
 use Rattle.play.specs.Laziness.{ShowsLoads}

@@ -1,9 +1,8 @@
 -- States of the loader, and runs as a loader sees them.
-use Rattle.std.specs.Prelude.{ℕ, suc, List, [], ◌∷◌, Bool, true, false, Some, None, Option, cond, nat_eq, codes}
-use Rattle.js_parser.specs.First.{out_name}
-use Rattle.play.specs.Value.{Value, Undefined, Error, Outcome, Normal, Thrown, ShownText, ShownObject}
+use Rattle.std.specs.Prelude.{ℕ, suc, List, [], ◌∷◌, Bool, true, false, Some, None, Option, cond, nat_eq}
+use Rattle.play.specs.Value.{Undefined, Normal}
 use Rattle.play.specs.Report.{Line}
-use Rattle.play.specs.Run.{Mark, Called, Uncaught, Idle, Entered, Needed, Trace, Say, End, State}
+use Rattle.play.specs.Run.{Mark, Trace, Say, End}
 use Rattle.play.specs.Loader.{Status, Absent, Asked, Here, Statuses, Loader, Moved, moves}
 use Rattle.play.specs.Page.{start}
 

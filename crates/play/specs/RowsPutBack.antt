@@ -1,8 +1,8 @@
 -- Sites that put back, and their neighbours that do not.
-use Rattle.std.specs.Prelude.{◌≡◌, ℕ, List, [], ◌∷◌, codes, Some, None, Option, cond, nat_eq}
+use Rattle.std.specs.Prelude.{ℕ, List, [], ◌∷◌, codes, Some, None, Option, cond, nat_eq}
 use Rattle.js_tree.specs.Tree.{Name, Func, Stmts, NoStmts, MoreStmts, Code, Declare, Script}
 use Rattle.js_tree.specs.declared.tree.Role.{Role}
-use Rattle.js_tree.specs.declared.tree.Role.TheVariants.{Plain, Stub, Wrapper, Late}
+use Rattle.js_tree.specs.declared.tree.Role.TheVariants.{Plain, Stub, Late}
 use Rattle.js_parser.specs.First.{statements_tree, stub_tree}
 use Rattle.js_parser.specs.declared.first.FirstStatement.TheVariants.{Call, Out}
 use Rattle.play.specs.PutBack.{PutsBack}

@@ -1,10 +1,8 @@
 -- Manifests, scripts and clusters that are read or refused, and what is played for them.
-use Rattle.std.specs.Prelude.{◌≡◌, ℕ, List, [], ◌∷◌, ◌++◌, codes, Some, None, Option, map}
+use Rattle.std.specs.Prelude.{◌≡◌, ℕ, List, ◌∷◌, ◌++◌, codes, Some, None, Option, map}
 use Rattle.dl_ports.specs.Files.{Files}
-use Rattle.js_tree.specs.Tree.{Func}
 use Rattle.js_tree.specs.Numbering.{number_of}
 use Rattle.js_parser.specs.declared.first.FirstItem.{FirstItem}
-use Rattle.js_parser.specs.declared.first.FirstEntry.{FirstEntry}
 use Rattle.play.specs.declared.manifest.ClusterLine.{ClusterLine}
 use Rattle.play.specs.declared.manifest.Manifest.{Manifest}
 use Rattle.play.specs.ManifestReader.{read_manifest}

@@ -1,18 +1,17 @@
 -- Programs whose errors pass the host border in another order than they were made, small scripts
 -- and their traces.
 use Rattle.std.specs.Prelude.{ℕ, List, [], ◌∷◌, codes, Some, None, Option, cond, nat_eq}
-use Rattle.js_tree.specs.Tree.{Name, Func, Script}
+use Rattle.js_tree.specs.Tree.{Name, Func}
 use Rattle.js_parser.specs.declared.first.FirstStatement.{FirstStatement}
 use Rattle.js_parser.specs.declared.first.FirstStatement.TheVariants.{Call, Out}
-use Rattle.js_parser.specs.declared.first.FirstBody.{FirstBody}
 use Rattle.js_parser.specs.declared.first.FirstBody.TheVariants.{Statements, Stub}
 use Rattle.js_parser.specs.declared.first.FirstItem.{FirstItem}
 use Rattle.js_parser.specs.declared.first.FirstItem.TheVariants.{Statement, Function}
-use Rattle.play.specs.Value.{Value, Undefined, Global, Outcome, Normal, Returned, Thrown, Shown, ShownObject}
+use Rattle.play.specs.Value.{Value, Undefined, Global, Outcome, Normal, Returned, Thrown, Shown}
 use Rattle.play.specs.Program.{Program, Ret, Tell, TellUncaught, Fail, Enter}
 use Rattle.play.specs.Page.{no_entries, start, written}
 use Rattle.play.specs.Site.{late_function, site_tree}
-use Rattle.play.specs.Run.{Mark, Trace, run, Say, Called, Entered, Needed, End, OutOfSteps, IsStuck}
+use Rattle.play.specs.Run.{Mark, Trace, run, Say, Called, Entered, Needed, End}
 use Rattle.play.specs.Rows as rows
 use Rattle.play.specs.Rows.{Timed}
 

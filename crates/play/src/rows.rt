@@ -207,7 +207,7 @@ pub fn loader_background()
         ≡ load.later (load.table Asked Here Absent) None (HereLine 2 ∷ AskLine 1 ∷ []) }
     ensures after_loss { step 2 (load.round true) (Lose 2)
         ≡ load.later (load.table Asked Asked Absent) None
-            (LostLine 2 ∷ AskLine 1 ∷ AskLine 2 ∷ []) }
+        (LostLine 2 ∷ AskLine 1 ∷ AskLine 2 ∷ []) }
     ensures beside_a_need { step 2 (load.round true) (Need 3)
         ≡ load.later (load.table Absent Asked Asked) (Some 3) (WaitLine 3 ∷ AskLine 3 ∷ []) }
     ensures over_the_window { step 1 (load.round true) (Need 3)
@@ -232,7 +232,7 @@ pub fn walked_marks()
     ensures after_idle { walk load.cluster (fresh (1 ∷ 2 ∷ []))
         (load.run_of (Idle 1 ∷ Entered 4 2 ∷ Entered 2 3 ∷ []))
         ≡ IdleLine ∷ WaitLine 2 ∷ AskLine 2 ∷ HereLine 2
-            ∷ WaitLine 1 ∷ AskLine 1 ∷ HereLine 1 ∷ [] }
+        ∷ WaitLine 1 ∷ AskLine 1 ∷ HereLine 1 ∷ [] }
     ensures lazily_once { lazy_lines load.cluster []
         (Entered 1 1 ∷ Entered 2 2 ∷ Entered 3 3 ∷ Entered 4 4 ∷ Entered 2 5 ∷ [])
         ≡ WaitLine 1 ∷ AskLine 1 ∷ HereLine 1 ∷ WaitLine 2 ∷ AskLine 2 ∷ HereLine 2 ∷ [] }
@@ -284,7 +284,7 @@ pub fn report_lines()
 pub fn shown_values()
     ensures ranks { all_shown [] (Error 5 ∷ Error 3 ∷ Text (codes "a") ∷ Undefined ∷ Error 5 ∷ [])
         ≡ ShownObject 1 ∷ ShownObject 2 ∷ ShownText (codes "a") ∷ ShownUndefined
-            ∷ ShownObject 1 ∷ [] }
+        ∷ ShownObject 1 ∷ [] }
     ensures passed_before { all_shown (3 ∷ []) (Error 5 ∷ Error 3 ∷ [])
         ≡ ShownObject 2 ∷ ShownObject 1 ∷ [] }
     ensures passed_after { all_passed (3 ∷ [])
@@ -365,7 +365,7 @@ pub fn manifest_texts()
     ensures clusters { site.Reads
         (codes "script 1 5 -\ncluster 2 0\nentry 2 -\nentry 7 -\ncluster 4294967295 2147483648\nentry 3 -\nend\n")
         (site.manifest 5 [] (site.line 2 0 (2 ∷ 7 ∷ [])
-            ∷ site.line 4294967295 2147483648 (3 ∷ []) ∷ [])) }
+        ∷ site.line 4294967295 2147483648 (3 ∷ []) ∷ [])) }
     ensures long_script { site.Refuses (codes "script 1 65536 -\nend\n") }
     ensures number_zero { site.Refuses (codes "script 1 5 0\nend\n") }
     ensures great_number { site.Refuses (codes "script 1 5 65536\nend\n") }
@@ -475,7 +475,7 @@ pub fn played_files()
     ensures not_needed { played (site.two_files (site.fifth_file site.fifth_cluster rows.no_files))
         rows.folder headline.page 19
         ≡ answered (Gives (codes "wait 5\nask 5\nhere 5\ncall out \"b\"\nend out-of-steps 19\n")
-            end.OutOfSteps)
+        end.OutOfSteps)
         (site.asked_script (codes "site/c5.txt" ∷ [])) }
     ensures none { played (site.two_files rows.no_files) rows.folder headline.page 100
         ≡ answered (Lacks (codes "site/c5.txt")) (site.asked_script (codes "site/c5.txt" ∷ [])) }

@@ -11,4 +11,4 @@ pub returns-clause-cluster : goal.returns-clause-cluster
 returns-clause-cluster c = reading.example_cluster
 
 pub returns-clause-entry : goal.returns-clause-entry
-returns-clause-entry c = ?
+returns-clause-entry c = reading.example_entry
