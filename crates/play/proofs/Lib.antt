@@ -18,3 +18,6 @@ pub mod FunctionLemmas
 pub mod sim
 pub mod LazinessLemmas
 pub mod HeadlineLemmas
+pub mod Reading
+pub mod ReportCalls
+pub mod WorkedReports

@@ -18,3 +18,8 @@ pub mod Answers
 pub mod Laws
 pub mod Laziness
 pub mod Headline
+pub mod RowsHeadline
+pub mod RowsPutBack
+pub mod RowsValue
+pub mod RowsSite
+pub mod RowsLoader

@@ -17,10 +17,9 @@ mod manifest;
 mod outcome;
 mod play;
 mod report;
+pub mod rows;
 mod site;
 mod table;
-
-ghost use Rattle.play.specs.Rows.{rows};
 
 pub use outcome::{End, FirstError, FirstFile, Outcome};
 pub use play::{play_first, play_page};
