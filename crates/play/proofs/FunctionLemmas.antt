@@ -112,3 +112,6 @@ count_statement items next i all s at h =
 pub listed_statement : (cs : List ClusterLine) (items : List FirstItem) (i : ℕ) (s : FirstStatement) → slice_get items i ≡ Some (item.Statement s)
     → list_all (is_listed cs) (stub_numbers (drop i items)) ≡ true → list_all (is_listed cs) (stub_numbers (drop (i + 1) items)) ≡ true
 listed_statement cs items i s at h = ap (λ l. list_all (is_listed cs) (stub_numbers l)) (sym (drop_at items i (item.Statement s) at)) ∙ h
+
+-- the lemmas of one more function
+pub ruleset one_more = (more_plain, more_stub, bodies_more)

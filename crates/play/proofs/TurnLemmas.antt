@@ -363,3 +363,10 @@ halts_then t a b c (halt.Needs place) h k = (keeps_then t a b c h k.0, k.1)
 pub turned_on : (t : Table) (a b c : Machine) (o : Option Halt) → Keeps t a b → Turns t b c o → ((h : Halt) → o ≡ Some h → ⊥) → Keeps t a c
 turned_on t a b c None h k n = keeps_then t a b c h k
 turned_on t a b c (Some x) h k n = absurd (n x refl)
+
+-- the lemmas of a return, of a need, and of the call of a stub whose cluster is here
+pub ruleset leaving = (keeps_call_return, keeps_late_return, ends_script)
+
+pub ruleset needing = (call_runs_out, needs_next, keeps_same)
+
+pub ruleset calling_late = (keeps_late, call_runs_out, late_runs_out)

@@ -85,9 +85,13 @@ line_of (c ∷ cs) k = cond (list_any (nat_eq k) c.entries) (Some c) (line_of cs
 abbrev pub is_listed : List ClusterLine → ℕ → Bool
 is_listed cs k = is_some (line_of cs k)
 
--- each stub is that of an entry, and there are as many plain functions as the manifest has numbers for
+-- each of these numbers is that of an entry
+abbrev pub OnlyListed : List ClusterLine → List ℕ → Type 0
+OnlyListed lines numbers = list_all (is_listed lines) numbers ≡ true
+
+-- each stub is that of an entry, and there are as many plain functions as the manifest has numbers
 pub record Fits (m : Manifest) (items : List FirstItem) : Type 0 where
-  pub listed : list_all (is_listed m.clusters) (stub_numbers items) ≡ true
+  pub listed : OnlyListed m.clusters (stub_numbers items)
   pub plain : plain_count items ≡ length m.plain
 
 abbrev pub items_of : Manifest → Option FirstScript → Option (List FirstItem)

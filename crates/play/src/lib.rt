@@ -4,8 +4,8 @@
 //! `text_reader`. A site is its manifest (`manifest`), its script (`site`) and its clusters
 //! (`clusters`); a `Machine` runs the script over the `Table` of its functions up to the call of a
 //! stub whose cluster is not here, and `play` reads that cluster's file and goes on. `report`
-//! writes the lines. The layer above may know `play_first` and `play_page`, and of their result what
-//! `specs/Played.antt`, `specs/Headline.antt` and `specs/Laziness.antt` say.
+//! writes the lines. The layer above may know `play_first` and `play_page`, and of their result
+//! what `specs/Played.antt`, `specs/Headline.antt` and `specs/Laziness.antt` say.
 #![tactic(auto)]
 
 mod clock;

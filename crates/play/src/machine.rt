@@ -137,7 +137,7 @@ impl Machine {
     }
 
     /// Goes on behind the call, where a body is over; the script's own ends the run.
-    #[tactic(auto, using(crate::proofs::TurnLemmas::keeps_call_return, crate::proofs::TurnLemmas::keeps_late_return, crate::proofs::TurnLemmas::ends_script))]
+    #[tactic(auto, using(crate::proofs::TurnLemmas::leaving))]
     fn leave(&mut self, table: &Table) -> Result<Option<Halt>, AllocError>
         requires { self.old.place.rest ≡ [] }
         ensures turns { IfOk result (Turns table.now self.old self.new) }
@@ -254,7 +254,7 @@ impl Machine {
 
     /// A call of a stub whose cluster is not here: where the entry's step is left, the cluster is
     /// needed first.
-    #[tactic(auto, using(crate::proofs::TurnLemmas::call_runs_out, crate::proofs::TurnLemmas::needs_next, crate::proofs::TurnLemmas::keeps_same))]
+    #[tactic(auto, using(crate::proofs::TurnLemmas::needing))]
     fn need(&mut self, table: &Table, letter: u8, number: u32, place: EntryPlace) -> Option<Halt>
         requires here { IsCall letter self.old.place.rest }
         requires named { StubNamed table.now letter number }
@@ -270,7 +270,7 @@ impl Machine {
     }
 
     /// A call of a stub whose cluster is here.
-    #[tactic(auto, using(crate::proofs::TurnLemmas::keeps_late, crate::proofs::TurnLemmas::call_runs_out, crate::proofs::TurnLemmas::late_runs_out))]
+    #[tactic(auto, using(crate::proofs::TurnLemmas::calling_late))]
     fn call_late(
         &mut self,
         table: &Table,

@@ -1,6 +1,6 @@
 ghost use Rattle.std.specs.Prelude.{◌≡◌, ◌+◌, ◌≤◌, [], List, ℕ, Some, None, true, false, length, map, IfOk, OnOk, IfSome, MatchOption, MatchBool, nat_eq, drop, replicate, slice_get};
-ghost use Rattle.std.specs.List.{list_any, list_all};
-ghost use Rattle.play.specs.Site.{Fits, line_of, is_listed, with_stub, with_plain, numbered, read_script_file, site_tree};
+ghost use Rattle.std.specs.List.{list_any};
+ghost use Rattle.play.specs.Site.{Fits, OnlyListed, line_of, with_stub, with_plain, numbered, read_script_file, site_tree};
 ghost use Rattle.play.specs.Program.{declared};
 ghost use Rattle.play.specs.Machine.{func_of, NamesAre, StubIs, BodyIs, BodiesAre};
 ghost use Rattle.play.specs.Tables.{Builds, statements_of};
@@ -137,7 +137,7 @@ fn function_of(
 ) -> Result<Function, AllocError>
     requires form { IsManifest manifest.now }
     requires plain { next + with_plain function.now.body 0 ≤ length manifest.now.plain }
-    requires listed { list_all (is_listed manifest.now.clusters) (with_stub function.now.body []) ≡ true }
+    requires listed { OnlyListed manifest.now.clusters (with_stub function.now.body []) }
     ensures is { IfOk result (λ f. func_of f
         ≡ numbered (drop next manifest.now.plain) function.now.name function.now.body) }
     ensures body { IfOk result (λ f. BodyIs manifest.now f.number f.body) }
@@ -164,7 +164,7 @@ fn function_of(
 }
 
 /// The functions of a script, in the order of the text.
-#[tactic(auto, using(crate::proofs::FunctionLemmas::more_plain, crate::proofs::FunctionLemmas::more_stub, crate::proofs::FunctionLemmas::bodies_more))]
+#[tactic(auto, using(crate::proofs::FunctionLemmas::one_more))]
 fn functions_of(
     alloc: Global,
     manifest: &Manifest,
