@@ -21,5 +21,6 @@ pub mod Headline
 pub mod RowsHeadline
 pub mod RowsPutBack
 pub mod RowsValue
+pub mod RowsTree
 pub mod RowsSite
 pub mod RowsLoader

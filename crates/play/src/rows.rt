@@ -3,7 +3,7 @@
 
 ghost use Rattle.std.specs.Prelude.{◌≡◌, ℕ, List, [], ◌∷◌, Option, Some, None, true, false, codes};
 ghost use Rattle.js_parser.specs.declared.first.FirstStatement.TheVariants.{Call, Out};
-ghost use Rattle.js_tree.specs.Tree.{Script, MoreStmts, Declare};
+ghost use Rattle.js_tree.specs.Tree.{Script, MoreStmts, Declare, Do, NoExpr, Return, This};
 ghost use Rattle.js_tree.specs.declared.tree.Role.TheVariants.{Wrapper, Late};
 ghost use Rattle.play.specs.declared.outcome.End.TheVariants as end;
 ghost use Rattle.play.specs.declared.outcome.FirstFile.TheVariants as file;
@@ -24,9 +24,10 @@ ghost use Rattle.play.specs.RowsHeadline as headline;
 ghost use Rattle.play.specs.RowsLoader as load;
 ghost use Rattle.play.specs.RowsPutBack as put_back;
 ghost use Rattle.play.specs.RowsSite as site;
+ghost use Rattle.play.specs.RowsTree as tree;
 ghost use Rattle.play.specs.RowsValue as value;
 ghost use Rattle.play.specs.Run.{Uncaught, Idle, Entered, Needed, OutOfSteps, IsStuck};
-ghost use Rattle.play.specs.Site.{Accepted, cluster_file, cluster_name, entries, entry_among, late_function, line_of, manifest_name, read_script_file, script_name, site_tree, stub_numbers};
+ghost use Rattle.play.specs.Site.{Accepted, Fits, is_listed, cluster_file, cluster_name, entries, entry_among, late_function, line_of, manifest_name, read_script_file, script_name, site_tree, stub_numbers};
 ghost use Rattle.play.specs.Site as site_file;
 ghost use Rattle.play.specs.Value.{Error, Text, Undefined, all_passed, all_shown, ShownUndefined, ShownText, ShownObject};
 ghost use Rattle.play.specs.Walk.{Ended, RanOut, Broke, end_of, walk};
@@ -509,4 +510,40 @@ pub fn played_files()
         ≡ answered (Lacks (codes "site/site.txt")) (codes "p" ∷ codes "site/site.txt" ∷ []) }
     ensures page_refused_first { played_page (rows.with_file (codes "p") [] rows.files)
         rows.folder (codes "p") 100 ≡ answered (Refuses file.Page) (codes "p" ∷ []) }
+{}
+
+/// Runs of scripts past the first grammar: what a call gives, a property that is not there, and
+/// `apply`.
+pub fn tree_scripts()
+    ensures returned { tree.marks_of (tree.shows_value tree.returns_a)
+        ≡ at (Entered 1 1) 8 ∷ at (out_mark (codes "a")) 11 ∷ at (Idle 1) 11 ∷ [] }
+    ensures not_returned { tree.marks_of (tree.shows_value (Do (tree.text (codes "a")) ∷ []))
+        ≡ at (Entered 1 1) 8 ∷ at (value.shows (ShownUndefined ∷ [])) 11 ∷ at (Idle 1) 11 ∷ [] }
+    ensures returned_nothing { tree.marks_of (tree.shows_value (Return NoExpr ∷ []))
+        ≡ at (Entered 1 1) 8 ∷ at (value.shows (ShownUndefined ∷ [])) 10 ∷ at (Idle 1) 10 ∷ [] }
+    ensures other_property { tree.marks_of
+        (Do (tree.host_call (codes "no") (tree.text (codes "a") ∷ [])) ∷ [])
+        ≡ at (Uncaught (ShownObject 1)) 6 ∷ at (Idle 0) 6 ∷ [] }
+    ensures apply_alone { tree.marks_of (tree.applies [])
+        ≡ at (Entered 1 1) 7 ∷ at (Idle 1) 7 ∷ [] }
+    ensures apply_this { tree.marks_of (tree.applies (This ∷ []))
+        ≡ at (Entered 1 1) 8 ∷ at (Idle 1) 8 ∷ [] }
+    ensures apply_text { tree.marks_of (tree.applies (This ∷ tree.text (codes "x") ∷ []))
+        ≡ at (Uncaught (ShownObject 1)) 8 ∷ at (Idle 0) 8 ∷ [] }
+    ensures handed_on { tree.marks_of tree.hands_on
+        ≡ at (Entered 2 1) 7 ∷ at (Entered 1 2) 17 ∷ at (Idle 2) 17 ∷ [] }
+{}
+
+/// A manifest and a script that fit each other, and those that do not.
+pub fn fitting_scripts()
+    ensures fits { Fits (site.manifest 117 (1 ∷ []) (site.line 1 33 (2 ∷ []) ∷ [])) rows.items }
+    ensures not_listed
+        { Fits (site.manifest 117 (1 ∷ []) (site.line 1 33 (3 ∷ []) ∷ [])) rows.items → ⊥ }
+    ensures number_less
+        { Fits (site.manifest 117 [] (site.line 1 33 (2 ∷ []) ∷ [])) rows.items → ⊥ }
+    ensures number_more
+        { Fits (site.manifest 117 (1 ∷ 3 ∷ []) (site.line 1 33 (2 ∷ []) ∷ [])) rows.items → ⊥ }
+    ensures without_number { site.numbers [] (value.function 102 [] ∷ []) ≡ 0 ∷ [] }
+    ensures listed { is_listed (site.line 1 33 (3 ∷ []) ∷ site.line 2 0 (2 ∷ []) ∷ []) 2 ≡ true }
+    ensures listed_not { is_listed (site.line 1 33 (3 ∷ []) ∷ []) 2 ≡ false }
 {}
