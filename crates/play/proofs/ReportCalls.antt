@@ -23,13 +23,15 @@ not_and false b e = (refl, e)
 
 free_append : (u v : List ℕ) → free u ≡ true → free v ≡ true → free (u ++ v) ≡ true
 free_append [] v a b = b
-free_append (c ∷ cs) v a b = let p = not_and (nat_eq c 10) (free cs) a in rw p.0 (free_append cs v p.1 b)
+free_append (c ∷ cs) v a b =
+    let p = not_and (nat_eq c 10) (free cs) a in rw p.0 (free_append cs v p.1 b)
 
 free_glyph : (b : Bool) (d : ℕ) → nat_eq (if b then 48 + d else 87 + d) 10 ≡ false
 free_glyph true d = grind (arith, nat_tests)
 free_glyph false d = grind (arith, nat_tests)
 
-free_if : (b : Bool) (x y : List ℕ) → free x ≡ true → free y ≡ true → free (if b then x else y) ≡ true
+free_if : (b : Bool) (x y : List ℕ) → free x ≡ true → free y ≡ true
+    → free (if b then x else y) ≡ true
 free_if true x y a b = a
 free_if false x y a b = b
 
@@ -37,7 +39,8 @@ free_onto : (k n : ℕ) (acc : List ℕ) → free acc ≡ true → free (digits_
 free_onto zero n acc a = a
 free_onto (suc k) n acc a =
     let more : free (digit_glyph false (n % 10) ∷ acc) ≡ true = rw (free_glyph (nat_lt (n % 10) 10) (n % 10)) a in
-    free_if (n / 10 == 0) (digit_glyph false (n % 10) ∷ acc) (digits_onto k 10 false (n / 10) (digit_glyph false (n % 10) ∷ acc)) more (free_onto k (n / 10) _ more)
+    free_if (n / 10 == 0) (digit_glyph false (n % 10) ∷ acc)
+    (digits_onto k 10 false (n / 10) (digit_glyph false (n % 10) ∷ acc)) more (free_onto k (n / 10) _ more)
 
 free_decimal : (n : ℕ) → free (decimal n) ≡ true
 unfolding digits
@@ -57,7 +60,8 @@ abbrev pub scan : List ℕ → List ℕ → List (List ℕ)
 scan front [] = []
 scan front (c ∷ cs) = cond (nat_eq c 10) (kept front (scan [] cs)) (scan (front ++ c ∷ []) cs)
 
-scan_line : (u front rest : List ℕ) → free u ≡ true → scan front (u ++ (10 ∷ rest)) ≡ kept (front ++ u) (scan [] rest)
+scan_line : (u front rest : List ℕ) → free u ≡ true
+    → scan front (u ++ (10 ∷ rest)) ≡ kept (front ++ u) (scan [] rest)
 scan_line [] front rest f = rw (append-nil front)
 scan_line (c ∷ cs) front rest f =
     let p = not_and (nat_eq c 10) (free cs) f in
@@ -91,7 +95,8 @@ ends_so (CutLine c) rest = simp append_assoc
 one_line : (l : Line) (ls : List Line) (tail : List ℕ) → free (line_body l) ≡ true
     → scan [] (lines_text (l ∷ ls) ++ tail) ≡ kept (line_body l) (scan [] (lines_text ls ++ tail))
 one_line l ls tail f =
-    ap (scan []) (append_assoc (line_text l) (lines_text ls) tail ∙ ends_so l (lines_text ls ++ tail)) ∙ scan_line (line_body l) [] (lines_text ls ++ tail) f
+    ap (scan [])
+    (append_assoc (line_text l) (lines_text ls) tail ∙ ends_so l (lines_text ls ++ tail)) ∙ scan_line (line_body l) [] (lines_text ls ++ tail) f
 
 abbrev pub all_free : List Line → Bool
 all_free [] = true
@@ -106,10 +111,12 @@ shown : (ls : List Line) (tail : List ℕ) → all_free (calls ls) ≡ true
 shown [] tail f = refl
 shown (CallLine name args ∷ ls) tail f =
     let p = and_both (free (line_body (CallLine name args))) (all_free (calls ls)) f in
-    one_line (CallLine name args) ls tail p.0 ∙ ap (λ ts. line_body (CallLine name args) ∷ ts) (shown ls tail p.1)
+    one_line (CallLine name args) ls tail p.0 ∙ ap (λ ts. line_body (CallLine name args) ∷ ts)
+    (shown ls tail p.1)
 shown (UncaughtLine v ∷ ls) tail f =
     let p = and_both (free (line_body (UncaughtLine v))) (all_free (calls ls)) f in
-    one_line (UncaughtLine v) ls tail p.0 ∙ ap (λ ts. line_body (UncaughtLine v) ∷ ts) (shown ls tail p.1)
+    one_line (UncaughtLine v) ls tail p.0 ∙ ap (λ ts. line_body (UncaughtLine v) ∷ ts)
+    (shown ls tail p.1)
 shown (IdleLine ∷ ls) tail f = one_line IdleLine ls tail refl ∙ shown ls tail f
 shown (EventLine k ∷ ls) tail f = one_line (EventLine k) ls tail (free_decimal k) ∙ shown ls tail f
 shown (WaitLine k ∷ ls) tail f = one_line (WaitLine k) ls tail (free_decimal k) ∙ shown ls tail f
@@ -129,9 +136,11 @@ end_so end.OutOfSteps steps = simp append_assoc
 
 last_line : (e : End) (steps : ℕ) → scan [] (end_text e steps) ≡ []
 last_line end.Ended steps =
-    ap (scan []) (end_so end.Ended steps) ∙ scan_line (end_body end.Ended steps) [] [] (free_decimal steps)
+    ap (scan []) (end_so end.Ended steps) ∙ scan_line (end_body end.Ended steps) [] []
+    (free_decimal steps)
 last_line end.OutOfSteps steps =
-    ap (scan []) (end_so end.OutOfSteps steps) ∙ scan_line (end_body end.OutOfSteps steps) [] [] (free_decimal steps)
+    ap (scan []) (end_so end.OutOfSteps steps) ∙ scan_line (end_body end.OutOfSteps steps) [] []
+    (free_decimal steps)
 
 all_free_front : (xs ys : List Line) → all_free (xs ++ ys) ≡ true → all_free xs ≡ true
 all_free_front [] ys f = refl
@@ -140,9 +149,11 @@ all_free_front (x ∷ xs) ys f =
     rw p.0 (all_free_front xs ys p.1)
 
 -- the calls of a report that shows a script are those of its text
-pub text_calls : (report : List ℕ) (e : End) (script : Script) (n : ℕ) → (s : ShowsOriginal report e script n)
+pub text_calls : (report : List ℕ) (e : End) (script : Script) (n : ℕ)
+    → (s : ShowsOriginal report e script n)
     → all_free (original_calls script n) ≡ true → scan [] report ≡ map line_body (calls s.lines)
 text_calls report e script n s f =
     let within = s.within in
     let front = all_free_front (calls s.lines) within.rest (rw within.is f) in
-    ap (scan []) s.report_is ∙ (shown s.lines (end_text e s.steps) front ∙ (ap (λ t. map line_body (calls s.lines) ++ t) (last_line e s.steps) ∙ append-nil (map line_body (calls s.lines))))
+    ap (scan []) s.report_is ∙
+    (shown s.lines (end_text e s.steps) front ∙ (ap (λ t. map line_body (calls s.lines) ++ t) (last_line e s.steps) ∙ append-nil (map line_body (calls s.lines))))

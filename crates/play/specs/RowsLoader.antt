@@ -15,7 +15,8 @@ abbrev pub each : Statuses
 each = table Absent Asked Here
 
 abbrev pub loader : Statuses → Option ℕ → Bool → Loader
-loader statuses waited background = record { table = statuses; waited = waited; background = background }
+loader statuses waited background =
+    record { table = statuses; waited = waited; background = background }
 
 -- one cluster of each status, without the background
 abbrev pub idle_not : Option ℕ → Loader

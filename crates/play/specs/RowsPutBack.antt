@@ -10,7 +10,8 @@ use Rattle.play.specs.Rows as rows
 
 -- the listed entries, the stubs' numbers and the script put back to no script
 abbrev pub PutsNotBack : List ℕ → List ℕ → Script → Type 0
-PutsNotBack listed stubs script = (original : Script) → PutsBack rows.entry_two listed stubs script original → ⊥
+PutsNotBack listed stubs script =
+    (original : Script) → PutsBack rows.entry_two listed stubs script original → ⊥
 
 -- an entry of this number alone
 abbrev pub only : ℕ → Func → ℕ → Option Func

@@ -1,5 +1,5 @@
 -- Manifests, scripts and clusters that are read or refused, and what is played for them.
-use Rattle.std.specs.Prelude.{◌≡◌, ℕ, List, ◌∷◌, ◌++◌, codes, Some, None, Option, map}
+use Rattle.std.specs.Prelude.{◌≡◌, ℕ, List, [], ◌∷◌, ◌++◌, codes, Some, None, Option, map}
 use Rattle.dl_ports.specs.Files.{Files}
 use Rattle.js_tree.specs.Numbering.{number_of}
 use Rattle.js_parser.specs.declared.first.FirstItem.{FirstItem}
@@ -7,7 +7,7 @@ use Rattle.play.specs.declared.manifest.ClusterLine.{ClusterLine}
 use Rattle.play.specs.declared.manifest.Manifest.{Manifest}
 use Rattle.play.specs.ManifestReader.{read_manifest}
 use Rattle.play.specs.Program.{declared}
-use Rattle.play.specs.Site.{ClusterFile, cluster_file, read_script_file, site_tree}
+use Rattle.play.specs.Site.{ClusterFile, Fits, cluster_file, read_script_file, site_tree}
 use Rattle.play.specs.Rows as rows
 
 -- ---- manifests
@@ -34,6 +34,10 @@ Refuses others = read_manifest (form others) ≡ None
 abbrev pub read_by : ℕ → List ℕ → List ClusterLine → Option (List FirstItem)
 read_by bytes plain clusters = read_script_file (manifest bytes plain clusters) rows.script_bytes
 
+-- it fits a manifest of these numbers, whose one cluster has these entries
+abbrev pub FitsBy : List ℕ → List ℕ → Type 0
+FitsBy plain entries = Fits (manifest 117 plain (line 1 33 entries ∷ [])) rows.items
+
 -- the numbers of the functions of a script, in the order of the text
 abbrev pub numbers : List ℕ → List FirstItem → List ℕ
 numbers ns items = map number_of (declared (site_tree ns items))
@@ -48,7 +52,8 @@ read_cluster_file bytes l =
 -- ---- a site of two clusters, the second of which is needed first
 
 abbrev pub two_manifest : List ℕ
-two_manifest = form (codes "script 1 129 -\ncluster 1 21\nentry 1 -\ncluster 5 31\nentry 2 -\nend\n")
+two_manifest = form
+    (codes "script 1 129 -\ncluster 1 21\nentry 1 -\ncluster 5 31\nentry 2 -\nend\n")
 
 abbrev pub two_script : List ℕ
 two_script =

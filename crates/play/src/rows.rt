@@ -1,7 +1,7 @@
 //! Worked rows: these calls do nothing, and each says what definitions come to at given values, of
 //! what holds and of what does not.
 
-ghost use Rattle.std.specs.Prelude.{◌≡◌, ℕ, List, [], ◌∷◌, Option, Some, None, true, false, codes};
+ghost use Rattle.std.specs.Prelude.{◌≡◌, ℕ, List, [], ◌∷◌, ◌++◌, Option, Some, None, true, false, codes};
 ghost use Rattle.js_parser.specs.declared.first.FirstStatement.TheVariants.{Call, Out};
 ghost use Rattle.js_tree.specs.Tree.{Script, MoreStmts, Declare, Do, NoExpr, Return, This};
 ghost use Rattle.js_tree.specs.declared.tree.Role.TheVariants.{Wrapper, Late};
@@ -27,7 +27,7 @@ ghost use Rattle.play.specs.RowsSite as site;
 ghost use Rattle.play.specs.RowsTree as tree;
 ghost use Rattle.play.specs.RowsValue as value;
 ghost use Rattle.play.specs.Run.{Uncaught, Idle, Entered, Needed, OutOfSteps, IsStuck};
-ghost use Rattle.play.specs.Site.{Accepted, Fits, is_listed, cluster_file, cluster_name, entries, entry_among, late_function, line_of, manifest_name, read_script_file, script_name, site_tree, stub_numbers};
+ghost use Rattle.play.specs.Site.{Accepted, is_listed, cluster_file, cluster_name, entries, entry_among, late_function, line_of, manifest_name, read_script_file, script_name, site_tree, stub_numbers};
 ghost use Rattle.play.specs.Site as site_file;
 ghost use Rattle.play.specs.Value.{Error, Text, Undefined, all_passed, all_shown, ShownUndefined, ShownText, ShownObject};
 ghost use Rattle.play.specs.Walk.{Ended, RanOut, Broke, end_of, walk};
@@ -121,7 +121,8 @@ pub fn example_loads()
 
 /// Sites that put back, and those that do not.
 pub fn put_back_sites()
-    ensures stub { back (put_back.only 2 (put_back.entry [])) (put_back.script_of (put_back.stub []))
+    ensures stub { back (put_back.only 2 (put_back.entry []))
+        (put_back.script_of (put_back.stub []))
         ≡ Some (put_back.script_of (put_back.plain [])) }
     ensures formals { back (put_back.only 2 (put_back.entry (put_back.a ∷ put_back.b ∷ [])))
         (put_back.script_of (put_back.stub (put_back.a ∷ put_back.b ∷ [])))
@@ -160,7 +161,8 @@ pub fn put_back_numbers()
 /// What each event does to a cluster that is absent (1), asked for (2) and here (3), without the
 /// background.
 pub fn loader_events()
-    ensures fresh { fresh (1 ∷ 2 ∷ 3 ∷ []) ≡ load.loader (load.table Absent Absent Absent) None false }
+    ensures fresh { fresh (1 ∷ 2 ∷ 3 ∷ [])
+        ≡ load.loader (load.table Absent Absent Absent) None false }
     ensures need_absent { step 9 (load.idle_not None) (Need 1)
         ≡ load.after (load.table Asked Asked Here) (Some 1) (WaitLine 1 ∷ AskLine 1 ∷ []) }
     ensures need_asked { step 9 (load.idle_not None) (Need 2)
@@ -222,7 +224,8 @@ pub fn walked_marks()
         ≡ WaitLine 1 ∷ AskLine 1 ∷ HereLine 1 ∷ WaitLine 2 ∷ AskLine 2 ∷ HereLine 2 ∷ [] }
     ensures told { walk load.cluster (fresh (1 ∷ 2 ∷ [])) (load.run_of
         (out_mark (codes "a") ∷ Uncaught (ShownObject 1) ∷ Idle 7 ∷ out_mark (codes "b") ∷ []))
-        ≡ out_line (codes "a") ∷ UncaughtLine (ShownObject 1) ∷ IdleLine ∷ out_line (codes "b") ∷ [] }
+        ≡ out_line (codes "a") ∷ UncaughtLine (ShownObject 1)
+        ∷ IdleLine ∷ out_line (codes "b") ∷ [] }
     ensures needed_alone { walk load.cluster (fresh (1 ∷ 2 ∷ [])) (load.run_of (Needed 2 ∷ []))
         ≡ WaitLine 1 ∷ AskLine 1 ∷ HereLine 1 ∷ [] }
     ensures asked_before { walk load.cluster (load.round false) (load.run_of (Entered 4 1 ∷ []))
@@ -239,7 +242,8 @@ pub fn walked_marks()
         ≡ WaitLine 1 ∷ AskLine 1 ∷ HereLine 1 ∷ WaitLine 2 ∷ AskLine 2 ∷ HereLine 2 ∷ [] }
     ensures lazily_told { lazy_lines load.cluster [] (out_mark (codes "a")
         ∷ Uncaught (ShownObject 1) ∷ Needed 2 ∷ Idle 7 ∷ out_mark (codes "b") ∷ [])
-        ≡ out_line (codes "a") ∷ UncaughtLine (ShownObject 1) ∷ IdleLine ∷ out_line (codes "b") ∷ [] }
+        ≡ out_line (codes "a") ∷ UncaughtLine (ShownObject 1)
+        ∷ IdleLine ∷ out_line (codes "b") ∷ [] }
     ensures lazily_here { lazy_lines load.cluster (2 ∷ []) (Entered 4 1 ∷ []) ≡ [] }
 {}
 
@@ -364,7 +368,8 @@ pub fn manifest_texts()
     ensures numbers { site.Reads (codes "script 1 65535 9,65535,1\nend\n")
         (site.manifest 65535 (9 ∷ 65535 ∷ 1 ∷ []) []) }
     ensures clusters { site.Reads
-        (codes "script 1 5 -\ncluster 2 0\nentry 2 -\nentry 7 -\ncluster 4294967295 2147483648\nentry 3 -\nend\n")
+        (codes "script 1 5 -\ncluster 2 0\nentry 2 -\nentry 7 -\n"
+        ++ codes "cluster 4294967295 2147483648\nentry 3 -\nend\n")
         (site.manifest 5 [] (site.line 2 0 (2 ∷ 7 ∷ [])
         ∷ site.line 4294967295 2147483648 (3 ∷ []) ∷ [])) }
     ensures long_script { site.Refuses (codes "script 1 65536 -\nend\n") }
@@ -471,7 +476,8 @@ pub fn cluster_files()
 pub fn played_files()
     ensures both { played (site.two_files (site.fifth_file site.fifth_cluster
         (site.first_file site.first_cluster rows.no_files))) rows.folder headline.page 100
-        ≡ answered (Gives (codes "wait 5\nask 5\nhere 5\ncall out \"b\"\nwait 1\nask 1\nhere 1\ncall out \"b\"\nidle\nend ended 49\n") end.Ended)
+        ≡ answered (Gives (codes "wait 5\nask 5\nhere 5\ncall out \"b\"\nwait 1\nask 1\nhere 1\n"
+        ++ codes "call out \"b\"\nidle\nend ended 49\n") end.Ended)
         (site.asked_script (codes "site/c5.txt" ∷ codes "site/c1.txt" ∷ [])) }
     ensures not_needed { played (site.two_files (site.fifth_file site.fifth_cluster rows.no_files))
         rows.folder headline.page 19
@@ -480,8 +486,8 @@ pub fn played_files()
         (site.asked_script (codes "site/c5.txt" ∷ [])) }
     ensures none { played (site.two_files rows.no_files) rows.folder headline.page 100
         ≡ answered (Lacks (codes "site/c5.txt")) (site.asked_script (codes "site/c5.txt" ∷ [])) }
-    ensures second_lacks { played (site.two_files (site.fifth_file site.fifth_cluster rows.no_files))
-        rows.folder headline.page 100 ≡ answered (Lacks (codes "site/c1.txt"))
+    ensures second_lacks { played (site.two_files (site.fifth_file site.fifth_cluster
+        rows.no_files)) rows.folder headline.page 100 ≡ answered (Lacks (codes "site/c1.txt"))
         (site.asked_script (codes "site/c5.txt" ∷ codes "site/c1.txt" ∷ [])) }
     ensures cluster_refused { played (site.two_files (site.fifth_file site.first_cluster
         (site.first_file site.first_cluster rows.no_files))) rows.folder headline.page 100
@@ -536,13 +542,10 @@ pub fn tree_scripts()
 
 /// A manifest and a script that fit each other, and those that do not.
 pub fn fitting_scripts()
-    ensures fits { Fits (site.manifest 117 (1 ∷ []) (site.line 1 33 (2 ∷ []) ∷ [])) rows.items }
-    ensures not_listed
-        { Fits (site.manifest 117 (1 ∷ []) (site.line 1 33 (3 ∷ []) ∷ [])) rows.items → ⊥ }
-    ensures number_less
-        { Fits (site.manifest 117 [] (site.line 1 33 (2 ∷ []) ∷ [])) rows.items → ⊥ }
-    ensures number_more
-        { Fits (site.manifest 117 (1 ∷ 3 ∷ []) (site.line 1 33 (2 ∷ []) ∷ [])) rows.items → ⊥ }
+    ensures fits { site.FitsBy (1 ∷ []) (2 ∷ []) }
+    ensures not_listed { site.FitsBy (1 ∷ []) (3 ∷ []) → ⊥ }
+    ensures number_less { site.FitsBy [] (2 ∷ []) → ⊥ }
+    ensures number_more { site.FitsBy (1 ∷ 3 ∷ []) (2 ∷ []) → ⊥ }
     ensures without_number { site.numbers [] (value.function 102 [] ∷ []) ≡ 0 ∷ [] }
     ensures listed { is_listed (site.line 1 33 (3 ∷ []) ∷ site.line 2 0 (2 ∷ []) ∷ []) 2 ≡ true }
     ensures listed_not { is_listed (site.line 1 33 (3 ∷ []) ∷ []) 2 ≡ false }
