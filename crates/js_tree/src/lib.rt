@@ -1,8 +1,8 @@
 //! The trees of scripts: what the parser gives and every later layer reads.
 //!
 //! The layers above may know the types as they stand here, and in contracts the plain trees of
-//! `specs/Tree.antt`, on which every definition stands. A plain tree has no places in memory, so two
-//! equal trees are one value. `Script` and `Func` have `copy` of `TryCopy`.
+//! `specs/Tree.antt`, on which every definition stands. A plain tree has no places in memory, so
+//! two equal trees are one value. `Script` and `Func` have `copy` of `TryCopy`.
 #![tactic(auto)]
 
 mod copy;

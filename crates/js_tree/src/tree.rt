@@ -154,8 +154,8 @@ pub struct Pair {
     pub value: Expr,
 }
 
-/// A function, declared or in an expression. A text says no number and no role: a parser gives 0 and
-/// `Plain`.
+/// A function, declared or in an expression. A text says no number and no role: a parser gives 0
+/// and `Plain`.
 #[cycle(tree)]
 #[derive(Drop)]
 pub struct Func {
