@@ -1,6 +1,6 @@
 -- What `read_script` and `read_cluster` read is of the grammar and has the text, and each text of the grammar is read.
-use Rattle.std.proofs.Common.{inl, inr, ◌≡◌, ℕ, zero, suc, ◌+◌, ◌≤◌, List, [], ◌∷◌, ◌++◌, Option, Some, None, refl, ap, sym, ◌∙◌, subst, append_assoc, arith, length, length-append}
-use Rattle.std.specs.Prelude.{◌⊎◌, All, codes}
+use Rattle.std.proofs.Common.{◌≡◌, ℕ, ◌+◌, ◌≤◌, List, [], ◌∷◌, ◌++◌, Option, Some, None, refl, ap, sym, ◌∙◌, subst, append_assoc, arith, length, length-append}
+use Rattle.std.specs.Prelude.{All, codes}
 use Rattle.std.specs.List.{flat_map}
 use Rattle.std.specs.Fmt.{decimal}
 use Rattle.std.proofs.lemmas.List.{append-nil}
@@ -10,7 +10,7 @@ use Rattle.js_parser.specs.declared.first.FirstScript.{FirstScript}
 use Rattle.js_parser.specs.declared.first.FirstEntry.{FirstEntry}
 use Rattle.text_reader.specs.Reader.{Found, Reader, pure, ◌>>=◌, ◌>>◌, skip, ended, whole}
 use Rattle.text_reader.proofs.Joined.{carried, skipped, skips}
-use Rattle.text_reader.proofs.Bytes.{chosen_parts, then_parts, same_parts, ended_is, ended_again, not_ended}
+use Rattle.text_reader.proofs.Bytes.{then_parts, same_parts, ended_is, ended_again, not_ended}
 use Rattle.js_parser.specs.First.{IsItem, IsEntry, statement_text, script_text, entry_text, cluster_text}
 use Rattle.js_parser.specs.FirstReader.{number, statements, items, script, entry, entries, read_script, read_cluster}
 use Rattle.js_parser.proofs.Numbers.{number_sound, number_again}

@@ -9,7 +9,7 @@ use Rattle.std.proofs.lemmas.List.Elements.{All-nil, All-cons, All-head, All-tai
 use Rattle.text_reader.specs.Reader.{Found, Reader, pure, skip}
 use Rattle.text_reader.specs.Reader.{or_end, many, list_after, an_item, up_to, behind}
 use Rattle.text_reader.proofs.Bytes.{then_parts, chosen_parts, same_parts, skip_sound, skip_again}
-use Rattle.text_reader.proofs.Joined.{mapped, maps}
+use Rattle.text_reader.proofs.Joined.{mapped}
 
 -- a text may go on in any way
 abbrev pub Anything : List ℕ → Type 0

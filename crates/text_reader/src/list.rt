@@ -1,4 +1,4 @@
-ghost use Rattle.std.specs.Prelude.{◌≡◌, Option, List, ℕ};
+ghost use Rattle.std.specs.Prelude.{◌≡◌, Option};
 ghost use Rattle.text_reader.specs.Reader.{Reader, list_after};
 ghost use Rattle.text_reader.specs.Gives.{Gives, or_none};
 

@@ -1,4 +1,4 @@
-ghost use Rattle.std.specs.Prelude.{◌≡◌, IfOk};
+ghost use Rattle.std.specs.Prelude.{◌≡◌};
 ghost use Rattle.js_parser.specs.FirstReader as reader;
 ghost use Rattle.text_reader.specs.Gives.{Gives};
 

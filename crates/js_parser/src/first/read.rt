@@ -1,4 +1,3 @@
-ghost use Rattle.std.specs.Prelude.{◌≡◌};
 ghost use Rattle.js_parser.specs.FirstReader as reader;
 ghost use Rattle.text_reader.specs.Gives.{Gives};
 
