@@ -80,7 +80,7 @@ mutual
   operand-end le (g.null c h) = refl
   operand-end le (g.truth c h) = refl
   operand-end le (g.falsehood c h) = refl
-  operand-end le (g.numeral c h) = refl
+  operand-end le (g.numeral d c h) = refl
   operand-end le (g.literal c h) = refl
   operand-end le (g.array {u = u} c d h es) = last-plain false u (mark m.CloseBracket d) refl
   operand-end le (g.object {u = u} c d h ps) = last-plain false u (mark m.CloseBrace d) refl
@@ -178,7 +178,7 @@ mutual
   operand-starts le (g.null c h) = one _ _ refl
   operand-starts le (g.truth c h) = one _ _ refl
   operand-starts le (g.falsehood c h) = one _ _ refl
-  operand-starts le (g.numeral c h) = one _ _ refl
+  operand-starts le (g.numeral d c h) = one _ _ refl
   operand-starts le (g.literal c h) = one _ _ refl
   operand-starts le (g.array c d h es) = one _ _ refl
   operand-starts le (g.object c d h ps) = one _ _ refl
@@ -209,7 +209,7 @@ expression-starts (g.identifier c h r) = one _ _ refl
 expression-starts (g.null c h) = one _ _ refl
 expression-starts (g.truth c h) = one _ _ refl
 expression-starts (g.falsehood c h) = one _ _ refl
-expression-starts (g.numeral c h) = one _ _ refl
+expression-starts (g.numeral d c h) = one _ _ refl
 expression-starts (g.literal c h) = one _ _ refl
 expression-starts (g.array c d h es) = one _ _ refl
 expression-starts (g.object c d h ps) = one _ _ refl
@@ -326,7 +326,7 @@ expression-no-label (g.identifier c h r) t away = ap not away
 expression-no-label (g.null c h) t away = refl
 expression-no-label (g.truth c h) t away = refl
 expression-no-label (g.falsehood c h) t away = refl
-expression-no-label (g.numeral c h) t away = refl
+expression-no-label (g.numeral d c h) t away = refl
 expression-no-label (g.literal c h) t away = refl
 expression-no-label (g.array c d h es) t away = refl
 expression-no-label (g.object c d h ps) t away = refl

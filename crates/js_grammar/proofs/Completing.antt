@@ -57,7 +57,7 @@ mutual
   known {form = form} {i = i} {l = l} (g.null a h) = by-linked form i l _ _ (one _ _ refl) refl (λ c next ts t up d. then_on d)
   known {form = form} {i = i} {l = l} (g.truth a h) = by-linked form i l _ _ (one _ _ refl) refl (λ c next ts t up d. then_on d)
   known {form = form} {i = i} {l = l} (g.falsehood a h) = by-linked form i l _ _ (one _ _ refl) refl (λ c next ts t up d. then_on d)
-  known {form = form} {i = i} {l = l} (g.numeral a h) = by-linked form i l _ _ (one _ _ refl) refl (λ c next ts t up d. then_on d)
+  known {form = form} {i = i} {l = l} (g.numeral d a h) = by-linked form i l _ _ (one _ _ refl) refl (λ c next ts t up d. then_on d)
   known {form = form} {i = i} {l = l} (g.literal a h) = by-linked form i l _ _ (one _ _ refl) refl (λ c next ts t up d. then_on d)
   known {form = form} {i = i} {l = l} (g.array {u = u} {es = es} a b h xs) =
       by-linked form i l _ _ (one _ _ refl) (operand-end {l = 16} (lit≤ tt) (g.array {i = i} a b (lit≤ tt) xs)) (λ c next ts t up d.
@@ -79,7 +79,8 @@ mutual
       then_on (onwards (rest-read f (λ ns body r. links c (Tree.Function (code (Some n) ns body)) next r) ts) d))
   known {form = form} {i = i} {l = l} (g.late {n = n} c1 c2 c3 c4 c5 c6 c7 h written number) =
       by-linked form i l _ _ (one _ _ refl) refl (λ c next ts t up d.
-      stepped (ap (λ f. mc.late_in f c next (mark m.OpenParenthesis c2 ∷ name get_name c3 ∷ mark m.OpenParenthesis c4 ∷ of_kind (k.Number n) c5 ∷ mark m.CloseParenthesis c6 ∷ mark m.CloseParenthesis c7 ∷ ts)) written) d)
+      stepped (ap (λ f. mc.late_in f c next (mark m.OpenParenthesis c2 ∷ name get_name c3 ∷ mark m.OpenParenthesis c4 ∷ of_kind (k.Number n) c5 ∷ mark m.CloseParenthesis c6 ∷ mark m.CloseParenthesis c7 ∷ ts)) written
+      ∙ ap (λ a. if a then links c (Tree.Late n) next ts else stuck) number) d)
   known {form = form} {i = i} {l = l} (g.dot {n = n} {u = u} {x = x} o a b h1 h2 h dx r) =
       by-linked form i l _ _ (start.starts-append u _ (operand-starts (omega arith) dx)) (operand-end {l = 17} (lit≤ tt) (g.dot o a b h1 h2 h1 dx r)) (λ c next ts t up d.
       placed (operand c next) (append_assoc u (mark m.Dot a ∷ (name n b ∷ [])) ts)
@@ -194,11 +195,11 @@ mutual
   pairs-read : {form : Form} {u : Symbols} {ps : Pairs} → PropertyList form u ps → (next : To Pairs) (d : Bool) (ts : Symbols)
       → Goes form (pairs next (u ++ (mark m.CloseBrace d ∷ ts))) (next ps (mark m.CloseBrace d ∷ ts))
   pairs-read g.no_property next d ts = then_on here
-  pairs-read (g.last_property {key = key} {u = u} kind a b h x) next d ts =
-      stepped (ap (λ o. mc.pairs_by o next (of_kind kind a) (mark m.Colon b ∷ (u ++ (mark m.CloseBrace d ∷ ts)))) h)
+  pairs-read (g.last_property {key = key} {u = u} s b h x) next d ts =
+      stepped (ap (λ o. mc.pairs_by o next s (mark m.Colon b ∷ (u ++ (mark m.CloseBrace d ∷ ts)))) h)
       (read-assign (known x) (lit≤ tt) (λ x r. mc.after_pair key x next r) (mark m.CloseBrace d ∷ ts) (lit< tt))
-  pairs-read (g.property_and {key = key} {u = u} {v = v} {x = x} kind a b c h dx ps) next d ts =
-      stepped (ap (λ o. mc.pairs_by o next (of_kind kind a) (mark m.Colon b ∷ ((u ++ (mark m.Comma c ∷ v)) ++ (mark m.CloseBrace d ∷ ts)))) h)
+  pairs-read (g.property_and {key = key} {u = u} {v = v} {x = x} s b c h dx ps) next d ts =
+      stepped (ap (λ o. mc.pairs_by o next s (mark m.Colon b ∷ ((u ++ (mark m.Comma c ∷ v)) ++ (mark m.CloseBrace d ∷ ts)))) h)
       (placed (assign true (λ x r. mc.after_pair key x next r)) (append_assoc u (mark m.Comma c ∷ v) (mark m.CloseBrace d ∷ ts))
       (onwards (read-assign (known dx) (lit≤ tt) (λ x r. mc.after_pair key x next r) (mark m.Comma c ∷ (v ++ (mark m.CloseBrace d ∷ ts))) (lit< tt))
       (pairs-read ps (λ ps r. next (Tree.MorePairs key x ps) r) d ts)))

@@ -232,7 +232,7 @@ mutual
   expression (g.null c h) = plain (mere (λ n. refl) (λ n. refl)) nothing
   expression (g.truth c h) = plain (mere (λ n. refl) (λ n. refl)) nothing
   expression (g.falsehood c h) = plain (mere (λ n. refl) (λ n. refl)) nothing
-  expression (g.numeral c h) = plain (mere (λ n. refl) (λ n. refl)) nothing
+  expression (g.numeral d c h) = plain (mere (λ n. refl) (λ n. refl)) nothing
   expression (g.literal c h) = plain (mere (λ n. refl) (λ n. refl)) nothing
   expression (g.array {u = u} c d h es) = pair _ u brackets (elements es)
   expression (g.object {u = u} c d h ps) = pair _ u braces (properties ps)
@@ -275,8 +275,8 @@ mutual
 
   properties : {form : Form} {u : Symbols} {ps : Pairs} → PropertyList form u ps → Counts u (in_pairs ps)
   properties g.no_property = nothing
-  properties {form = form} (g.last_property {key = key} kind c d r x) = plain (key-plain form kind key r) (plain (mere (λ n. refl) (λ n. refl)) (trailing (expression x)))
-  properties {form = form} (g.property_and {key = key} kind c d f r x ps) = plain (key-plain form kind key r) (plain (mere (λ n. refl) (λ n. refl)) (linked (mark m.Comma f) (expression x) (mere (λ n. refl) (λ n. refl)) (properties ps)))
+  properties {form = form} (g.last_property {key = key} s d r x) = plain (key-plain form s.kind key r) (plain (mere (λ n. refl) (λ n. refl)) (trailing (expression x)))
+  properties {form = form} (g.property_and {key = key} s d f r x ps) = plain (key-plain form s.kind key r) (plain (mere (λ n. refl) (λ n. refl)) (linked (mark m.Comma f) (expression x) (mere (λ n. refl) (λ n. refl)) (properties ps)))
 
   rest : {form : Form} {u : Symbols} {ns : List Name} {body : Stmts} → FunctionRest form u ns body → Counts u (in_stmts body)
   rest (g.function_rest {u = u} {v = v} c d f h fs r body) = paired _ u _ parentheses (formals fs) (pair _ v braces (source body))

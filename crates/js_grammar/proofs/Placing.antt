@@ -85,11 +85,15 @@ linked : {form : Form} {behind : Bool} {u : Symbols} (s : Symbol) {v : Symbols} 
     → Placed form behind (u ++ (s ∷ v))
 linked s h away may i = join h (plain away may i)
 
+abbrev symbol_of : TokenKind → Bool → Bool → Symbol
+symbol_of kind newline in_decimal = record { kind = kind; newline = newline; in_decimal = in_decimal }
+
 -- a name, behind no name
-named : {form : Form} {n : Name} {newline : Bool} {v : Symbols} → (not (is_own n) || is_written form) ≡ true → Placed form true v → Placed form false (name n newline ∷ v)
-named {form = form} {n = n} {newline = newline} {v = v} h i = record {
+named : {form : Form} {n : Name} {newline in_decimal : Bool} {v : Symbols} → (not (is_own n) || is_written form) ≡ true → Placed form true v
+    → Placed form false (symbol_of (k.Name n) newline in_decimal ∷ v)
+named {form = form} {n = n} {newline = newline} {in_decimal = in_decimal} {v = v} h i = record {
   is =
-      both (may_come form false (name n newline)) (are_placed form true v) (both (stands form (k.Name n)) true h refl) i.is;
+      both (may_come form false (symbol_of (k.Name n) newline in_decimal)) (are_placed form true v) (both (stands form (k.Name n)) true h refl) i.is;
 }
 
 -- ---- names
@@ -114,7 +118,8 @@ keyed-name : (form : Form) (n key : Name) (a : Bool) → may_stand form n ≡ a 
 keyed-name form n key true h e = h
 keyed-name form n key false h e = cc
 
-keyed : {form : Form} {key : Name} {newline : Bool} {v : Symbols} (kind : TokenKind) → key_of form kind ≡ Some key → Placed form true v → Placed form false v → Placed form false (of_kind kind newline ∷ v)
+keyed : {form : Form} {key : Name} {newline in_decimal : Bool} {v : Symbols} (kind : TokenKind) → key_of form kind ≡ Some key → Placed form true v → Placed form false v
+    → Placed form false (symbol_of kind newline in_decimal ∷ v)
 keyed {form = form} {key = key} (k.Name n) h i j = named (standing form n (keyed-name form n key (may_stand form n) refl h)) i
 keyed (k.Str text) h i j = plain refl refl j
 keyed (k.Number n) h i j = plain refl refl j
@@ -300,7 +305,7 @@ mutual
   expression (g.null c h) = plain refl refl none
   expression (g.truth c h) = plain refl refl none
   expression (g.falsehood c h) = plain refl refl none
-  expression (g.numeral c h) = plain refl refl none
+  expression (g.numeral d c h) = plain refl refl none
   expression (g.literal c h) = plain refl refl none
   expression (g.array c d h es) = plain refl refl (linked (mark m.CloseBracket d) (elements es) refl refl none)
   expression (g.object c d h ps) = plain refl refl (linked (mark m.CloseBrace d) (properties ps) refl refl none)
@@ -343,9 +348,9 @@ mutual
 
   properties : {form : Form} {u : Symbols} {ps : Pairs} → PropertyList form u ps → Placed form false u
   properties g.no_property = none
-  properties (g.last_property kind c d r x) = keyed kind r (plain refl refl (expression x)) (plain refl refl (expression x))
-  properties (g.property_and kind c d f r x ps) =
-      keyed kind r (plain refl refl (linked (mark m.Comma f) (expression x) refl refl (properties ps))) (plain refl refl (linked (mark m.Comma f) (expression x) refl refl (properties ps)))
+  properties (g.last_property s d r x) = keyed s.kind r (plain refl refl (expression x)) (plain refl refl (expression x))
+  properties (g.property_and s d f r x ps) =
+      keyed s.kind r (plain refl refl (linked (mark m.Comma f) (expression x) refl refl (properties ps))) (plain refl refl (linked (mark m.Comma f) (expression x) refl refl (properties ps)))
 
   rest : {form : Form} {u : Symbols} {ns : List Name} {body : Stmts} (behind : Bool) → FunctionRest form u ns body → Placed form behind u
   rest behind (g.function_rest c d f h fs r body) =

@@ -15,7 +15,8 @@ use Rattle.js_grammar.specs.declared.form.Form.{Form}
 use Rattle.js_grammar.specs.declared.form.Form.TheVariants.{Source, Written}
 use Rattle.js_grammar.specs.Symbols.{Symbol, Symbols}
 use Rattle.js_grammar.specs.Operators.{Operator, LogicalOr, LogicalAnd, Operation, joined, level, may_operate}
-use Rattle.js_grammar.specs.Names.{key_of, is_eval, is_reference, is_binding, is_property}
+use Rattle.js_lexer.specs.Words.{is_spelled}
+use Rattle.js_grammar.specs.Names.{get_name, is_function_number, key_of, is_eval, is_reference, is_binding, is_property}
 use Rattle.js_grammar.specs.Grammar.{code}
 
 -- what is to be read next, and what comes of it with the tokens that are left
@@ -183,13 +184,22 @@ abbrev pub after_new : Bool → Expr → To Expr → Symbols → State
 after_new c x next [] = next (Tree.New x Tree.NoExprs) []
 after_new c x next (s ∷ ts) = new_by s.kind c x next s ts
 
-abbrev pub late_by : TokenKind → Bool → To Expr → Symbols → State
-late_by (k.Number n) c next ts = links c (Tree.Late n) next ts
-late_by _ c next ts = stuck
+abbrev pub is_get : TokenKind → Bool
+is_get (k.Name n) = is_spelled get_name n
+is_get _ = false
 
+abbrev pub late_by : TokenKind → Bool → Bool → To Expr → Symbols → State
+late_by (k.Number n) in_decimal c next ts =
+    if in_decimal && is_function_number n then expect is_close_parenthesis (expect is_close_parenthesis (links c (Tree.Late n) next)) ts else stuck
+late_by _ in_decimal c next ts = stuck
+
+abbrev pub late_number : Bool → To Expr → Symbols → State
+late_number c next [] = stuck
+late_number c next (s ∷ ts) = late_by s.kind s.in_decimal c next ts
+
+-- behind `eval`
 abbrev pub late : Bool → To Expr → Symbols → State
-late c next (s1 ∷ s2 ∷ s3 ∷ s4 ∷ s5 ∷ s6 ∷ ts) = late_by s4.kind c next ts
-late c next _ = stuck
+late c next ts = expect is_open_parenthesis (expect is_get (expect is_open_parenthesis (late_number c next))) ts
 
 -- in the form Written alone
 abbrev pub late_in : Form → Bool → To Expr → Symbols → State

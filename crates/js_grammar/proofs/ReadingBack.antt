@@ -354,7 +354,7 @@ mutual
   again (g.null c h) j in_may = g.null false (lit≤ tt)
   again (g.truth c h) j in_may = g.truth false (lit≤ tt)
   again (g.falsehood c h) j in_may = g.falsehood false (lit≤ tt)
-  again (g.numeral c h) j in_may = g.numeral false (lit≤ tt)
+  again (g.numeral d c h) j in_may = g.numeral true false (lit≤ tt)
   again (g.literal c h) j in_may = g.literal false (lit≤ tt)
   again (g.array {es = es} c d h xs) j in_may =
       moved (g.array false false (lit≤ tt) (elements-again xs)) (ap (λ t. mark m.OpenBracket false ∷ t) (between (elements es) (k.Mark m.CloseBracket) []))
@@ -428,16 +428,16 @@ mutual
 
   properties-again : {form : Form} {u : Symbols} {ps : Pairs} → PropertyList form u ps → PropertyList form (line_of (pairs ps)) ps
   properties-again g.no_property = g.no_property
-  properties-again {form = form} (g.last_property {key = key} {x = x} kind c d r dx) =
+  properties-again {form = form} (g.last_property {key = key} {x = x} s d r dx) =
       subst (λ t. PropertyList form (on_line (key_kind key) ∷ (mark m.Colon false ∷ t)) (Tree.MorePairs key x Tree.NoPairs)) (ap line_of (sym (append-nil (operand true 2 x (expr x)))))
-      (g.last_property (key_kind key) false false (key_back form kind key r) (operand-at true 2 (lit≤ tt) (again dx)))
-  properties-again {form = form} (g.property_and {key = key} {x = x} {ps = Tree.NoPairs} kind c d f r dx ps) =
+      (g.last_property (on_line (key_kind key)) false (key_back form s.kind key r) (operand-at true 2 (lit≤ tt) (again dx)))
+  properties-again {form = form} (g.property_and {key = key} {x = x} {ps = Tree.NoPairs} s d f r dx ps) =
       subst (λ t. PropertyList form (on_line (key_kind key) ∷ (mark m.Colon false ∷ t)) (Tree.MorePairs key x Tree.NoPairs)) (ap line_of (sym (append-nil (operand true 2 x (expr x)))))
-      (g.last_property (key_kind key) false false (key_back form kind key r) (operand-at true 2 (lit≤ tt) (again dx)))
-  properties-again {form = form} (g.property_and {key = key} {x = x} {ps = Tree.MorePairs other value more} kind c d f r dx ps) =
+      (g.last_property (on_line (key_kind key)) false (key_back form s.kind key r) (operand-at true 2 (lit≤ tt) (again dx)))
+  properties-again {form = form} (g.property_and {key = key} {x = x} {ps = Tree.MorePairs other value more} s d f r dx ps) =
       subst (λ t. PropertyList form (on_line (key_kind key) ∷ (mark m.Colon false ∷ t)) (Tree.MorePairs key x (Tree.MorePairs other value more)))
       (sym (between (operand true 2 x (expr x)) (k.Mark m.Comma) (pairs (Tree.MorePairs other value more))))
-      (g.property_and (key_kind key) false false false (key_back form kind key r) (operand-at true 2 (lit≤ tt) (again dx)) (properties-again ps))
+      (g.property_and (on_line (key_kind key)) false false (key_back form s.kind key r) (operand-at true 2 (lit≤ tt) (again dx)) (properties-again ps))
 
   rest-again : {form : Form} {u : Symbols} {ns : List Name} {body : Stmts} → FunctionRest form u ns body
       → FunctionRest form (line_of (enclosed (names ns) ++ (k.Mark m.OpenBrace ∷ (stmts body ++ (k.Mark m.CloseBrace ∷ []))))) ns body

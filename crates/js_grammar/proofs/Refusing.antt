@@ -1,19 +1,20 @@
 -- What may be told of the worked texts that are refused.
-use Rattle.std.proofs.Common.{◌≡◌, ◌≢◌, ℕ, zero, suc, ◌+◌, ◌≤◌, true, false, [], ◌∷◌, ◌++◌, codes, Some, None, refl, ap, arith, lit≤, max}
+use Rattle.std.proofs.Common.{◌≡◌, ◌≢◌, ℕ, zero, suc, ◌+◌, ◌-◌, ◌==◌, ◌≤◌, true, false, [], ◌∷◌, ◌++◌, codes, Some, None, refl, ap, arith, lit≤, max}
 use Rattle.std.proofs.Math.Nat.{le-max_left, le-max_right, le_trans}
 use Rattle.js_lexer.specs.declared.mark.Mark.TheVariants as m
 use Rattle.js_lexer.specs.declared.word.Word.TheVariants as w
 use Rattle.js_lexer.specs.declared.token.TokenKind.TheVariants as k
 use Rattle.js_tree.specs.declared.tree.PrefixOp.TheVariants as p
 use Rattle.js_tree.specs.Tree
-use Rattle.js_grammar.specs.declared.form.Form.TheVariants.{Source}
+use Rattle.js_grammar.specs.declared.form.Form.TheVariants.{Source, Written}
 use Rattle.js_grammar.specs.declared.form.Construct.TheVariants as c
-use Rattle.js_grammar.specs.Symbols.{Symbols, word, mark, name, number, end, symbols, first}
+use Rattle.js_grammar.specs.Symbols.{Symbols, word, mark, name, number, number_in, end, symbols, first}
 use Rattle.js_grammar.specs.Ends.{at_end, written}
 use Rattle.js_grammar.specs.Grammar as g
 use Rattle.js_grammar.specs.Grammar.{code, Expression, Statement}
 use Rattle.js_grammar.specs.Contexts as context
-use Rattle.js_grammar.specs.Accepted.{source_limits, Accepted, IsOverAt, most_open, opened}
+use Rattle.std.specs.Fmt.{digits}
+use Rattle.js_grammar.specs.Accepted.{source_limits, written_limits, Accepted, IsOverAt, most_open, opened}
 use Rattle.js_grammar.specs.Fault.{Fault, Syntax, Refused, TooDeep, TooMany, Begins, Breaks, breaking, over}
 use Rattle.js_grammar.specs.Fault as fault
 use Rattle.js_grammar.specs.RefusedRows as rows
@@ -22,13 +23,14 @@ use Rattle.js_grammar.proofs.Placing.{begun}
 use Rattle.js_grammar.proofs.Completing.{never}
 
 pub with_statement : Fault Source (source_limits 65535) rows.with_statement (Refused (place 3 5) c.With)
+unfolding digits
 with_statement = breaking (token (k.Word w.Var) 0 3 1 1 false ∷ token (k.Name (codes "a")) 4 5 1 5 false ∷ token (k.Mark m.Semicolon) 5 6 1 6 false ∷ token (k.Word w.Var) 7 10 2 1 true ∷ token (k.Name (codes "b")) 11 12 2 5 false ∷ token (k.Mark m.Semicolon) 12 13 2 6 false ∷ token (k.Name (codes "a")) 14 15 3 1 true ∷ token (k.Mark m.Assign) 15 16 3 2 false ∷ token (k.Number 1) 16 17 3 3 false ∷ token (k.Mark m.Semicolon) 17 18 3 4 false ∷ []) (token (k.Word w.With) 18 22 3 5 false) (record {
   rest = token (k.Mark m.OpenParenthesis) 22 23 3 9 false ∷ token (k.Name (codes "b")) 23 24 3 10 false ∷ token (k.Mark m.CloseParenthesis) 24 25 3 11 false ∷ token (k.Mark m.OpenBrace) 25 26 3 12 false ∷ token (k.Mark m.CloseBrace) 26 27 3 13 false ∷ token k.End 30 30 3 17 false ∷ [];
   whole = refl;
   begins = record {
     more = end false ∷ [];
     tree = (Tree.MoreStmts (Tree.Variables (Tree.MoreVarItems (codes "a") Tree.NoExpr Tree.NoVarItems)) (Tree.MoreStmts (Tree.Variables (Tree.MoreVarItems (codes "b") Tree.NoExpr Tree.NoVarItems)) (Tree.MoreStmts (Tree.Do (Tree.Assign None (Tree.Ident (codes "a")) (Tree.Num 1))) Tree.NoStmts)));
-    unlimited = record { derives = record { elements = word w.Var false ∷ name (codes "a") false ∷ mark m.Semicolon false ∷ word w.Var true ∷ name (codes "b") false ∷ mark m.Semicolon false ∷ name (codes "a") true ∷ mark m.Assign false ∷ number 1 false ∷ mark m.Semicolon false ∷ []; newline = false; whole = refl; derived = (g.source_and (g.statement (g.variables false (g.last_declarator (g.bare false refl)) (written false))) (g.source_and (g.statement (g.variables true (g.last_declarator (g.bare false refl)) (written false))) (g.source_and (g.statement (g.expression (g.assign None m.Assign false (lit≤ tt) refl (g.identifier true (lit≤ tt) refl) refl (g.numeral false (lit≤ tt))) (λ e. cc) (λ e. cc) (written false))) g.no_source))) }; few_functions = lit≤ tt };
+    unlimited = record { derives = record { elements = word w.Var false ∷ name (codes "a") false ∷ mark m.Semicolon false ∷ word w.Var true ∷ name (codes "b") false ∷ mark m.Semicolon false ∷ name (codes "a") true ∷ mark m.Assign false ∷ number 1 false ∷ mark m.Semicolon false ∷ []; newline = false; whole = refl; derived = (g.source_and (g.statement (g.variables false (g.last_declarator (g.bare false refl)) (written false))) (g.source_and (g.statement (g.variables true (g.last_declarator (g.bare false refl)) (written false))) (g.source_and (g.statement (g.expression (g.assign None m.Assign false (lit≤ tt) refl (g.identifier true (lit≤ tt) refl) refl (g.numeral true false (lit≤ tt))) (λ e. cc) (λ e. cc) (written false))) g.no_source))) }; few_functions = lit≤ tt };
   };
   ends = λ h. let placed = begun Source 65535 _ h in cc;
 }) refl
@@ -52,7 +54,7 @@ own_name = breaking (token (k.Name (codes "x")) 0 1 1 1 false ∷ token (k.Mark 
   begins = record {
     more = number 1 false ∷ mark m.Semicolon false ∷ end false ∷ [];
     tree = (Tree.MoreStmts (Tree.Do (Tree.Assign None (Tree.Ident (codes "x")) (Tree.Num 1))) Tree.NoStmts);
-    unlimited = record { derives = record { elements = name (codes "x") false ∷ mark m.Assign false ∷ number 1 false ∷ mark m.Semicolon false ∷ []; newline = false; whole = refl; derived = (g.source_and (g.statement (g.expression (g.assign None m.Assign false (lit≤ tt) refl (g.identifier false (lit≤ tt) refl) refl (g.numeral false (lit≤ tt))) (λ e. cc) (λ e. cc) (written false))) g.no_source) }; few_functions = lit≤ tt };
+    unlimited = record { derives = record { elements = name (codes "x") false ∷ mark m.Assign false ∷ number 1 false ∷ mark m.Semicolon false ∷ []; newline = false; whole = refl; derived = (g.source_and (g.statement (g.expression (g.assign None m.Assign false (lit≤ tt) refl (g.identifier false (lit≤ tt) refl) refl (g.numeral true false (lit≤ tt))) (λ e. cc) (λ e. cc) (written false))) g.no_source) }; few_functions = lit≤ tt };
   };
   ends = λ h. let placed = begun Source 65535 _ h in cc;
 }) refl
@@ -76,13 +78,13 @@ not_list zero = number 1 false ∷ []
 not_list (suc n) = mark m.Not false ∷ not_list n
 
 not_symbols : (n start : ℕ) → symbols (rows.nots n start) ≡ not_list n ++ (end false ∷ [])
-unfolding not_list
-not_symbols zero start = refl
+unfolding not_list digits
+not_symbols zero start = let one : start + 1 - start ≡ 1 = omega arith in ap (λ n. number_in (n == 1) 1 false ∷ end false ∷ []) one
 not_symbols (suc n) start = ap (λ u. mark m.Not false ∷ u) (not_symbols n (start + 1))
 
 not_expression : (l n : ℕ) → l ≤ 14 → Expression Source true l (not_list n) (rows.not_tree n)
 unfolding not_list
-not_expression l zero h = g.numeral false (omega arith)
+not_expression l zero h = g.numeral true false (omega arith)
 not_expression l (suc n) h = g.prefix p.Not false h refl (not_expression 14 n (lit≤ tt))
 
 no_brace : (n : ℕ) → (first (not_list n) (end false)).kind ≢ k.Mark m.OpenBrace
@@ -109,7 +111,7 @@ nots_accepted = record {
 }
 
 too_deep : IsOverAt Source (source_limits 65535) (symbols (rows.nots 399 0)) 0
-unfolding not_list
+unfolding not_list digits
 too_deep = record {
   before = [];
   element = not_list 399 ++ [];
@@ -142,10 +144,10 @@ two_open more = le_trans (most-least 2 more) (le_trans (le-max_right 1 (most_ope
 
 -- `((1))`
 ones : Expression Source true 19 (mark m.OpenParenthesis false ∷ mark m.OpenParenthesis false ∷ number 1 false ∷ mark m.CloseParenthesis false ∷ mark m.CloseParenthesis false ∷ []) (Tree.Num 1)
-ones = g.parenthesised false false (lit≤ tt) (g.parenthesised false false (lit≤ tt) (g.numeral false (lit≤ tt)))
+ones = g.parenthesised false false (lit≤ tt) (g.parenthesised false false (lit≤ tt) (g.numeral true false (lit≤ tt)))
 
 ones_statement : Statement Source context.script (mark m.OpenParenthesis false ∷ mark m.OpenParenthesis false ∷ number 1 false ∷ mark m.CloseParenthesis false ∷ mark m.CloseParenthesis false ∷ []) (end false) (Tree.Do (Tree.Num 1))
-ones_statement = g.expression (g.parenthesised false false (lit≤ tt) (g.parenthesised false false (lit≤ tt) (g.numeral false (lit≤ tt)))) (λ e. cc) (λ e. cc) (at_end refl)
+ones_statement = g.expression (g.parenthesised false false (lit≤ tt) (g.parenthesised false false (lit≤ tt) (g.numeral true false (lit≤ tt)))) (λ e. cc) (λ e. cc) (at_end refl)
 
 two_begin : Begins Source 65535 (mark m.OpenParenthesis false ∷ mark m.OpenParenthesis false ∷ [])
 two_begin = record {
@@ -253,7 +255,7 @@ regular_expression = breaking (token (k.Name (codes "x")) 0 1 1 1 false ∷ toke
   begins = record {
     more = number 1 false ∷ mark m.Semicolon false ∷ end false ∷ [];
     tree = (Tree.MoreStmts (Tree.Do (Tree.Assign None (Tree.Ident (codes "x")) (Tree.Num 1))) Tree.NoStmts);
-    unlimited = record { derives = record { elements = name (codes "x") false ∷ mark m.Assign false ∷ number 1 false ∷ mark m.Semicolon false ∷ []; newline = false; whole = refl; derived = (g.source_and (g.statement (g.expression (g.assign None m.Assign false (lit≤ tt) refl (g.identifier false (lit≤ tt) refl) refl (g.numeral false (lit≤ tt))) (λ e. cc) (λ e. cc) (written false))) g.no_source) }; few_functions = lit≤ tt };
+    unlimited = record { derives = record { elements = name (codes "x") false ∷ mark m.Assign false ∷ number 1 false ∷ mark m.Semicolon false ∷ []; newline = false; whole = refl; derived = (g.source_and (g.statement (g.expression (g.assign None m.Assign false (lit≤ tt) refl (g.identifier false (lit≤ tt) refl) refl (g.numeral true false (lit≤ tt))) (λ e. cc) (λ e. cc) (written false))) g.no_source) }; few_functions = lit≤ tt };
   };
   ends = never Source 65535 (symbols (token (k.Name (codes "x")) 0 1 1 1 false ∷ token (k.Mark m.Assign) 1 2 1 2 false ∷ token (k.Mark m.Slash) 2 3 1 3 false ∷ [])) 60 (λ more. refl);
 }) refl
@@ -277,7 +279,7 @@ eval_called = breaking (token (k.Name (codes "x")) 0 1 1 1 false ∷ token (k.Ma
   begins = record {
     more = number 1 false ∷ mark m.Semicolon false ∷ end false ∷ [];
     tree = (Tree.MoreStmts (Tree.Do (Tree.Assign None (Tree.Ident (codes "x")) (Tree.Num 1))) Tree.NoStmts);
-    unlimited = record { derives = record { elements = name (codes "x") false ∷ mark m.Assign false ∷ number 1 false ∷ mark m.Semicolon false ∷ []; newline = false; whole = refl; derived = (g.source_and (g.statement (g.expression (g.assign None m.Assign false (lit≤ tt) refl (g.identifier false (lit≤ tt) refl) refl (g.numeral false (lit≤ tt))) (λ e. cc) (λ e. cc) (written false))) g.no_source) }; few_functions = lit≤ tt };
+    unlimited = record { derives = record { elements = name (codes "x") false ∷ mark m.Assign false ∷ number 1 false ∷ mark m.Semicolon false ∷ []; newline = false; whole = refl; derived = (g.source_and (g.statement (g.expression (g.assign None m.Assign false (lit≤ tt) refl (g.identifier false (lit≤ tt) refl) refl (g.numeral true false (lit≤ tt))) (λ e. cc) (λ e. cc) (written false))) g.no_source) }; few_functions = lit≤ tt };
   };
   ends = never Source 65535 (symbols (token (k.Name (codes "x")) 0 1 1 1 false ∷ token (k.Mark m.Assign) 1 2 1 2 false ∷ token (k.Name (codes "eval")) 2 6 1 3 false ∷ [])) 60 (λ more. refl);
 }) refl
@@ -304,4 +306,17 @@ arguments_declared = breaking (token (k.Word w.Var) 0 3 1 1 false ∷ []) (token
     unlimited = record { derives = record { elements = word w.Var false ∷ name (codes "b") false ∷ mark m.Semicolon false ∷ []; newline = false; whole = refl; derived = (g.source_and (g.statement (g.variables false (g.last_declarator (g.bare false refl)) (written false))) g.no_source) }; few_functions = lit≤ tt };
   };
   ends = never Source 65535 (symbols (token (k.Word w.Var) 0 3 1 1 false ∷ token (k.Name (codes "arguments")) 4 13 1 5 false ∷ [])) 60 (λ more. refl);
+}) refl
+
+pub late_in_hexadecimal : Fault Written (written_limits 196605) rows.late_in_hexadecimal (Syntax (place 1 16))
+unfolding digits
+late_in_hexadecimal = breaking (token (k.Name (codes "x")) 0 1 1 1 false ∷ token (k.Mark m.Assign) 1 2 1 2 false ∷ token (k.Name (codes "eval")) 2 6 1 3 false ∷ token (k.Mark m.OpenParenthesis) 6 7 1 7 false ∷ token (k.Name (codes "$dl_get")) 7 14 1 8 false ∷ token (k.Mark m.OpenParenthesis) 14 15 1 15 false ∷ []) (token (k.Number 2) 15 18 1 16 false) (record {
+  rest = token (k.Mark m.CloseParenthesis) 18 19 1 19 false ∷ token (k.Mark m.CloseParenthesis) 19 20 1 20 false ∷ token k.End 20 20 1 21 false ∷ [];
+  whole = refl;
+  begins = record {
+    more = number 2 false ∷ mark m.CloseParenthesis false ∷ mark m.CloseParenthesis false ∷ mark m.Semicolon false ∷ end false ∷ [];
+    tree = (Tree.MoreStmts (Tree.Do (Tree.Assign None (Tree.Ident (codes "x")) (Tree.Late 2))) Tree.NoStmts);
+    unlimited = record { derives = record { elements = name (codes "x") false ∷ mark m.Assign false ∷ name (codes "eval") false ∷ mark m.OpenParenthesis false ∷ name (codes "$dl_get") false ∷ mark m.OpenParenthesis false ∷ number 2 false ∷ mark m.CloseParenthesis false ∷ mark m.CloseParenthesis false ∷ mark m.Semicolon false ∷ []; newline = false; whole = refl; derived = (g.source_and (g.statement (g.expression (g.assign None m.Assign false (lit≤ tt) refl (g.identifier false (lit≤ tt) refl) refl (g.late false false false false false false false (lit≤ tt) refl refl)) (λ e. cc) (λ e. cc) (written false))) g.no_source) }; few_functions = lit≤ tt };
+  };
+  ends = never Written 196605 (symbols (token (k.Name (codes "x")) 0 1 1 1 false ∷ token (k.Mark m.Assign) 1 2 1 2 false ∷ token (k.Name (codes "eval")) 2 6 1 3 false ∷ token (k.Mark m.OpenParenthesis) 6 7 1 7 false ∷ token (k.Name (codes "$dl_get")) 7 14 1 8 false ∷ token (k.Mark m.OpenParenthesis) 14 15 1 15 false ∷ token (k.Number 2) 15 18 1 16 false ∷ [])) 60 (λ more. refl);
 }) refl

@@ -46,7 +46,7 @@ leaf-is (g.identifier c h r) s e = alone _ (s ∷ []) e
 leaf-is (g.null c h) s e = alone _ (s ∷ []) e
 leaf-is (g.truth c h) s e = alone _ (s ∷ []) e
 leaf-is (g.falsehood c h) s e = alone _ (s ∷ []) e
-leaf-is (g.numeral c h) s e = alone _ (s ∷ []) e
+leaf-is (g.numeral d c h) s e = alone _ (s ∷ []) e
 leaf-is (g.literal c h) s e = alone _ (s ∷ []) e
 leaf-is (g.array {u = u} c d h es) s e = absurd (longer s _ _ (more u _ _) e)
 leaf-is (g.object {u = u} c d h ps) s e = absurd (longer s _ _ (more u _ _) e)

@@ -85,7 +85,7 @@ signs = (
         elements = name (codes "x") false ∷ mark m.Assign false ∷ mark m.Minus false ∷ mark m.Minus false ∷ name (codes "a") false ∷ mark m.Plus false ∷ mark m.Plus false ∷ number 31 false ∷ [];
         newline = false;
         whole = refl;
-        derived = g.source_and (g.statement (g.expression (g.assign None m.Assign false (lit≤ tt) refl (g.identifier false (lit≤ tt) refl) refl (g.binary (Operation b.Add) false (lit≤ tt) refl (g.prefix p.Minus false (lit≤ tt) refl (g.prefix p.Minus false (lit≤ tt) refl (g.identifier false (lit≤ tt) refl))) (g.prefix p.Plus false (lit≤ tt) refl (g.numeral false (lit≤ tt))))) (λ e. cc) (λ e. cc) (at_end refl))) g.no_source;
+        derived = g.source_and (g.statement (g.expression (g.assign None m.Assign false (lit≤ tt) refl (g.identifier false (lit≤ tt) refl) refl (g.binary (Operation b.Add) false (lit≤ tt) refl (g.prefix p.Minus false (lit≤ tt) refl (g.prefix p.Minus false (lit≤ tt) refl (g.identifier false (lit≤ tt) refl))) (g.prefix p.Plus false (lit≤ tt) refl (g.numeral true false (lit≤ tt))))) (λ e. cc) (λ e. cc) (at_end refl))) g.no_source;
       };
       few_functions = lit≤ tt;
     };
@@ -123,7 +123,7 @@ new_called = (
         elements = word w.New false ∷ mark m.OpenParenthesis false ∷ name (codes "a") false ∷ mark m.OpenParenthesis false ∷ mark m.CloseParenthesis false ∷ mark m.Dot false ∷ name (codes "b") false ∷ mark m.CloseParenthesis false ∷ mark m.OpenParenthesis false ∷ number 1 false ∷ mark m.CloseParenthesis false ∷ [];
         newline = false;
         whole = refl;
-        derived = g.source_and (g.statement (g.expression (g.new false (lit≤ tt) (g.parenthesised false false (lit≤ tt) (g.dot 17 false false (lit≤ tt) (lit≤ tt) (lit≤ tt) (g.call (lit≤ tt) (g.identifier false (lit≤ tt) refl) (g.no_arguments false false)) refl)) (g.arguments false false (g.last_argument (g.numeral false (lit≤ tt))))) (λ e. cc) (λ e. cc) (at_end refl))) g.no_source;
+        derived = g.source_and (g.statement (g.expression (g.new false (lit≤ tt) (g.parenthesised false false (lit≤ tt) (g.dot 17 false false (lit≤ tt) (lit≤ tt) (lit≤ tt) (g.call (lit≤ tt) (g.identifier false (lit≤ tt) refl) (g.no_arguments false false)) refl)) (g.arguments false false (g.last_argument (g.numeral true false (lit≤ tt))))) (λ e. cc) (λ e. cc) (at_end refl))) g.no_source;
       };
       few_functions = lit≤ tt;
     };
@@ -142,7 +142,7 @@ literals = (
         elements = word w.Var false ∷ name (codes "a") false ∷ mark m.Assign false ∷ mark m.OpenBracket false ∷ number 1 false ∷ mark m.Comma false ∷ mark m.Comma false ∷ number 2 false ∷ mark m.Comma false ∷ mark m.CloseBracket false ∷ mark m.Comma false ∷ name (codes "o") false ∷ mark m.Assign false ∷ mark m.OpenBrace false ∷ string (codes "if") false ∷ mark m.Colon false ∷ number 1 false ∷ mark m.Comma false ∷ string (codes "b") false ∷ mark m.Colon false ∷ number 2 false ∷ mark m.CloseBrace false ∷ [];
         newline = false;
         whole = refl;
-        derived = g.source_and (g.statement (g.variables false (g.declarator_and false (g.initialised false false refl (g.array false false (lit≤ tt) (g.element_and false (g.numeral false (lit≤ tt)) (g.hole_and false (g.element_and false (g.numeral false (lit≤ tt)) g.no_element))))) (g.last_declarator (g.initialised false false refl (g.object false false (lit≤ tt) (g.property_and (k.Str (codes "if")) false false false refl (g.numeral false (lit≤ tt)) (g.last_property (k.Str (codes "b")) false false refl (g.numeral false (lit≤ tt)))))))) (at_end refl))) g.no_source;
+        derived = g.source_and (g.statement (g.variables false (g.declarator_and false (g.initialised false false refl (g.array false false (lit≤ tt) (g.element_and false (g.numeral true false (lit≤ tt)) (g.hole_and false (g.element_and false (g.numeral true false (lit≤ tt)) g.no_element))))) (g.last_declarator (g.initialised false false refl (g.object false false (lit≤ tt) (g.property_and (string (codes "if") false) false false refl (g.numeral true false (lit≤ tt)) (g.last_property (string (codes "b") false) false refl (g.numeral true false (lit≤ tt)))))))) (at_end refl))) g.no_source;
       };
       few_functions = lit≤ tt;
     };
@@ -161,7 +161,7 @@ in_header = (
         elements = word w.For false ∷ mark m.OpenParenthesis false ∷ word w.Var false ∷ name (codes "i") false ∷ mark m.Assign false ∷ mark m.OpenParenthesis false ∷ number 1 false ∷ word w.In false ∷ name (codes "x") false ∷ mark m.CloseParenthesis false ∷ mark m.Semicolon false ∷ mark m.Semicolon false ∷ mark m.CloseParenthesis false ∷ mark m.Semicolon false ∷ [];
         newline = false;
         whole = refl;
-        derived = g.source_and (g.statement (g.for false false false false false (g.variables_first false (g.last_declarator (g.initialised false false refl (g.parenthesised false false (lit≤ tt) (g.binary (Operation b.In) false (lit≤ tt) refl (g.numeral false (lit≤ tt)) (g.identifier false (lit≤ tt) refl)))))) g.absent g.absent (g.empty false))) g.no_source;
+        derived = g.source_and (g.statement (g.for false false false false false (g.variables_first false (g.last_declarator (g.initialised false false refl (g.parenthesised false false (lit≤ tt) (g.binary (Operation b.In) false (lit≤ tt) refl (g.numeral true false (lit≤ tt)) (g.identifier false (lit≤ tt) refl)))))) g.absent g.absent (g.empty false))) g.no_source;
       };
       few_functions = lit≤ tt;
     };
@@ -237,7 +237,7 @@ clauses = (
         elements = word w.Switch false ∷ mark m.OpenParenthesis false ∷ name (codes "a") false ∷ mark m.CloseParenthesis false ∷ mark m.OpenBrace false ∷ word w.Case false ∷ number 1 false ∷ mark m.Colon false ∷ name (codes "b") false ∷ word w.Case true ∷ number 2 false ∷ mark m.Colon false ∷ word w.Default false ∷ mark m.Colon false ∷ word w.Break false ∷ mark m.CloseBrace false ∷ [];
         newline = false;
         whole = refl;
-        derived = g.source_and (g.statement (g.switch false false false false false (g.identifier false (lit≤ tt) refl) (g.case_and false false (g.numeral false (lit≤ tt)) (g.statement_and (g.expression (g.identifier false (lit≤ tt) refl) (λ e. cc) (λ e. cc) (at_line refl refl (λ e. cc))) g.no_statement) (g.case_and true false (g.numeral false (lit≤ tt)) g.no_statement (g.default_and false false (g.statement_and (g.break false refl (before_brace refl)) g.no_statement) g.no_clause))))) g.no_source;
+        derived = g.source_and (g.statement (g.switch false false false false false (g.identifier false (lit≤ tt) refl) (g.case_and false false (g.numeral true false (lit≤ tt)) (g.statement_and (g.expression (g.identifier false (lit≤ tt) refl) (λ e. cc) (λ e. cc) (at_line refl refl (λ e. cc))) g.no_statement) (g.case_and true false (g.numeral true false (lit≤ tt)) g.no_statement (g.default_and false false (g.statement_and (g.break false refl (before_brace refl)) g.no_statement) g.no_clause))))) g.no_source;
       };
       few_functions = lit≤ tt;
     };

@@ -77,3 +77,7 @@ callee_read = token (k.Name (codes "a")) 0 1 1 1 false ∷ token (k.Mark m.Dot) 
 -- `var arguments`
 abbrev pub arguments_declared : List Token
 arguments_declared = token (k.Word w.Var) 0 3 1 1 false ∷ token (k.Name (codes "arguments")) 4 13 1 5 false ∷ token k.End 13 13 1 14 false ∷ []
+
+-- `x=eval($dl_get(0x2))`
+abbrev pub late_in_hexadecimal : List Token
+late_in_hexadecimal = token (k.Name (codes "x")) 0 1 1 1 false ∷ token (k.Mark m.Assign) 1 2 1 2 false ∷ token (k.Name (codes "eval")) 2 6 1 3 false ∷ token (k.Mark m.OpenParenthesis) 6 7 1 7 false ∷ token (k.Name (codes "$dl_get")) 7 14 1 8 false ∷ token (k.Mark m.OpenParenthesis) 14 15 1 15 false ∷ token (k.Number 2) 15 18 1 16 false ∷ token (k.Mark m.CloseParenthesis) 18 19 1 19 false ∷ token (k.Mark m.CloseParenthesis) 19 20 1 20 false ∷ token k.End 20 20 1 21 false ∷ []

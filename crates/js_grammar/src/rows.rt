@@ -51,6 +51,7 @@ pub fn refused_texts()
     ensures eval_called { Fault Source (source_limits 65535) refused.eval_called (Refused (place 1 3) c.Eval) }
     ensures callee_read { Fault Source (source_limits 65535) refused.callee_read (Refused (place 1 3) c.Callee) }
     ensures arguments_declared { Fault Source (source_limits 65535) refused.arguments_declared (Refused (place 1 5) c.Arguments) }
+    ensures late_in_hexadecimal { Fault Written (written_limits 196605) refused.late_in_hexadecimal (Syntax (place 1 16)) }
 {}
 
 /// What is told of a token behind `function f(a`, where it is the breaking one.

@@ -39,3 +39,6 @@ returns-clause-callee_read c = worked.callee_read
 
 pub returns-clause-arguments_declared : goal.returns-clause-arguments_declared
 returns-clause-arguments_declared c = worked.arguments_declared
+
+pub returns-clause-late_in_hexadecimal : goal.returns-clause-late_in_hexadecimal
+returns-clause-late_in_hexadecimal c = worked.late_in_hexadecimal
