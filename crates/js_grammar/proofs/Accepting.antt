@@ -11,8 +11,8 @@ use Rattle.js_grammar.specs.Symbols.{Symbol, Symbols, symbols, first, end}
 use Rattle.js_grammar.specs.Contexts.{Context}
 use Rattle.js_grammar.specs.Grammar.{SourceElement, SourceElements}
 use Rattle.js_grammar.specs.Grammar as g
-use Rattle.js_grammar.specs.Depth.{depth, stmt_depth}
-use Rattle.js_grammar.specs.Nesting.{nesting, stmt_nesting}
+use Rattle.js_grammar.specs.Heights.{stmt_height}
+use Rattle.js_grammar.specs.Depth.{depth, nesting, by_nodes, by_functions}
 use Rattle.js_grammar.specs.Accepted.{Derives, Accepted, IsOverAt, most_open, opened}
 use Rattle.js_grammar.specs.Fault.{Fault, Answer, breaking, over, spent}
 use Rattle.js_grammar.specs.Laws.{open_behind}
@@ -38,13 +38,13 @@ joined {form = form} {c = c} {middle = middle} {others = others} w next (g.sourc
 
 -- ---- limits of a whole and of its parts
 
-depth-part : (ss others : Stmts) (s : Stmt) → stmt_depth s ≤ depth (and_then ss (Tree.MoreStmts s others))
-depth-part Tree.NoStmts others s = le-max_left (stmt_depth s) (depth others)
-depth-part (Tree.MoreStmts t ss) others s = le_trans (depth-part ss others s) (le-max_right (stmt_depth t) (depth (and_then ss (Tree.MoreStmts s others))))
+depth-part : (ss others : Stmts) (s : Stmt) → stmt_height by_nodes s ≤ depth (and_then ss (Tree.MoreStmts s others))
+depth-part Tree.NoStmts others s = le-max_left (stmt_height by_nodes s) (depth others)
+depth-part (Tree.MoreStmts t ss) others s = le_trans (depth-part ss others s) (le-max_right (stmt_height by_nodes t) (depth (and_then ss (Tree.MoreStmts s others))))
 
-nesting-part : (ss others : Stmts) (s : Stmt) → stmt_nesting s ≤ nesting (and_then ss (Tree.MoreStmts s others))
-nesting-part Tree.NoStmts others s = le-max_left (stmt_nesting s) (nesting others)
-nesting-part (Tree.MoreStmts t ss) others s = le_trans (nesting-part ss others s) (le-max_right (stmt_nesting t) (nesting (and_then ss (Tree.MoreStmts s others))))
+nesting-part : (ss others : Stmts) (s : Stmt) → stmt_height by_functions s ≤ nesting (and_then ss (Tree.MoreStmts s others))
+nesting-part Tree.NoStmts others s = le-max_left (stmt_height by_functions s) (nesting others)
+nesting-part (Tree.MoreStmts t ss) others s = le_trans (nesting-part ss others s) (le-max_right (stmt_height by_functions t) (nesting (and_then ss (Tree.MoreStmts s others))))
 
 open-front : (n : ℕ) (u v : Symbols) → most_open n u ≤ most_open n (u ++ v)
 open-front n [] v = at v
@@ -73,7 +73,7 @@ kept form limits tokens tree n a o =
       derived = joined (o.element ++ o.after) (end o.newline) o.derives_before refl (g.source_and o.derives o.derives_after);
     } in
     let same = one_tree form tokens tree (and_then o.trees (Tree.MoreStmts o.tree o.other_trees)) a.unlimited.derives d in
-    let deep = a.keeps.deep_enough in let nested = a.keeps.nested_enough in let open_most = a.keeps.open_enough in
+    let deep = a.keeps.not_too_deep in let nested = a.keeps.not_too_nested in let open_most = a.keeps.not_too_many_open in
     let deeper = depth-part o.trees o.other_trees o.tree in let nesteds = nesting-part o.trees o.other_trees o.tree in
     let closed = (source o.derives_before).closed 0 in
     let e = ap (most_open 0) o.whole in
@@ -81,9 +81,9 @@ kept form limits tokens tree n a o =
     let g = ap (λ n. most_open n (o.element ++ (o.after ++ (end o.newline ∷ [])))) closed in
     let h = open-front 0 o.element (o.after ++ (end o.newline ∷ [])) in
     o.breaks (record {
-      deep_enough = max-le (le_trans deeper (subst (λ t. depth t ≤ limits.depth) same deep)) (omega arith);
-      nested_enough = max-le (le_trans nesteds (subst (λ t. nesting t ≤ limits.nesting) same nested)) (omega arith);
-      open_enough = omega (arith, e, f, g, h, open_most);
+      not_too_deep = max-le (le_trans deeper (subst (λ t. depth t ≤ limits.depth) same deep)) (omega arith);
+      not_too_nested = max-le (le_trans nesteds (subst (λ t. nesting t ≤ limits.nesting) same nested)) (omega arith);
+      not_too_many_open = omega (arith, e, f, g, h, open_most);
     })
 
 pub no_fault : (form : Form) (limits : Limits) (tokens : List Token) (tree : Script) (told : Answer) → Accepted form limits (symbols tokens) tree → Fault form limits tokens told → ⊥

@@ -16,7 +16,7 @@ use Rattle.js_tree.specs.Tree.{Name, Expr, Exprs, Stmts}
 use Rattle.js_grammar.specs.declared.form.Form.{Form}
 use Rattle.js_grammar.specs.Symbols.{Symbol, Symbols, mark, name}
 use Rattle.js_grammar.specs.Operators.{Operator, LogicalOr, LogicalAnd, Operation, level, sign, prefix_sign, postfix_sign, assignment}
-use Rattle.js_grammar.specs.Ends.{ends_from, ends_changed, changes}
+use Rattle.js_grammar.specs.Ends.{ends_from, ends_changed, is_change}
 use Rattle.js_grammar.specs.Grammar.{Formals, Expression, NewCallee, Arguments, ArgumentList, FunctionRest, Statement, SourceElement}
 use Rattle.js_grammar.specs.Grammar as g
 use Rattle.js_grammar.proofs.Levels.{is_empty}
@@ -25,7 +25,7 @@ use Rattle.js_grammar.proofs.Levels.{is_empty}
 
 pub ends-join : (c : Bool) (u v : Symbols) → ends_from c (u ++ v) ≡ ends_from (ends_from c u) v
 ends-join c [] v = refl
-ends-join c (s ∷ u) v = ends-join (changes s.kind) u v
+ends-join c (s ∷ u) v = ends-join (is_change s.kind) u v
 
 pub ends-any : (c d : Bool) (v : Symbols) → is_empty v ≡ false → ends_from c v ≡ ends_from d v
 ends-any c d [] h = cc
@@ -33,10 +33,10 @@ ends-any c d (s ∷ v) h = refl
 
 -- the last tokens decide
 pub last-of : (u : Symbols) (s : Symbol) (v : Symbols) → is_empty v ≡ false → ends_changed (u ++ (s ∷ v)) ≡ ends_changed v
-last-of u s v h = ends-join false u (s ∷ v) ∙ ends-any (changes s.kind) false v h
+last-of u s v h = ends-join false u (s ∷ v) ∙ ends-any (is_change s.kind) false v h
 
 -- a token that is neither `++` nor `--` comes last
-pub last-plain : (c : Bool) (u : Symbols) (s : Symbol) → changes s.kind ≡ false → ends_from c (u ++ (s ∷ [])) ≡ false
+pub last-plain : (c : Bool) (u : Symbols) (s : Symbol) → is_change s.kind ≡ false → ends_from c (u ++ (s ∷ [])) ≡ false
 last-plain c u s h = ends-join c u (s ∷ []) ∙ h
 
 rest-end : {form : Form} {u : Symbols} {ns : List Name} {body : Stmts} (c : Bool) → FunctionRest form u ns body → ends_from c u ≡ false

@@ -13,13 +13,13 @@ use Rattle.js_tree.specs.Tree.{Name, Expr, Exprs, MaybeExpr, Elements, Pairs, St
 use Rattle.js_tree.specs.Tree
 use Rattle.js_grammar.specs.declared.form.Form.{Form}
 use Rattle.js_grammar.specs.Symbols.{Symbol, Symbols, word, mark, name, first, end}
-use Rattle.js_grammar.specs.Operators.{Operator, LogicalOr, LogicalAnd, Operation, joined, sign, level, operation_level, may_operate, changes, assignment, postfix_sign}
+use Rattle.js_grammar.specs.Operators.{Operator, LogicalOr, LogicalAnd, Operation, joined, sign, level, operation_level, may_operate, is_in_operation, changes, assignment, postfix_sign}
 use Rattle.js_grammar.specs.Contexts.{Context}
 use Rattle.js_grammar.specs.Ends.{written, semicolon}
 use Rattle.js_grammar.specs.Grammar.{Formals, Expression, NewCallee, Arguments, ArgumentList, ElementList, PropertyList, FunctionRest, Declarator, DeclaratorList, OptionalExpression, ForFirst, Block, Statement, StatementList, CaseClauses, SourceElement, SourceElements}
 use Rattle.js_grammar.specs.Grammar as g
 use Rattle.js_grammar.specs.Accepted.{Derives}
-use Rattle.js_grammar.specs.Printed.{Kinds, level_of, is_number, is_function, is_in_operation, has_call, enclosed, enclosed_if, needs, operand_for, operand, key_kind, assignment_mark, prefix_least, names, begins_as_another, expr, exprs, other_exprs, maybe_expr, elements, pairs, stmt, stmts, for_init, var_items, other_var_items, initialiser, cases}
+use Rattle.js_grammar.specs.Printed.{Kinds, level_of, is_number, is_function, has_call, enclosed, enclosed_if, needs, operand_for, operand, key_kind, assignment_mark, prefix_least, names, begins_as_another, expr, exprs, other_exprs, maybe_expr, elements, pairs, stmt, stmts, for_init, var_items, other_var_items, initialiser, cases}
 use Rattle.js_grammar.specs.ReadsBack.{on_line, line_of}
 use Rattle.js_grammar.proofs.Levels.{lower, widen, expression-any}
 use Rattle.js_grammar.proofs.Starting.{list-follows, elements-follow}

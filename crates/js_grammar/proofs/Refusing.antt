@@ -107,7 +107,7 @@ nots_accepted = record {
     derives = record { elements = not_list 398; newline = false; whole = not_symbols 398 0; derived = g.source_and {v = []} (g.statement (not_statement 398)) g.no_source };
     few_functions = lit≤ tt;
   };
-  keeps = record { deep_enough = lit≤ tt; nested_enough = lit≤ tt; open_enough = lit≤ tt };
+  keeps = record { not_too_deep = lit≤ tt; not_too_nested = lit≤ tt; not_too_many_open = lit≤ tt };
 }
 
 too_deep : IsOverAt Source (source_limits 65535) (symbols (rows.nots 399 0)) 0
@@ -126,8 +126,8 @@ too_deep = record {
   derives = g.statement (not_statement 399);
   derives_after = g.no_source;
   few_functions = lit≤ tt;
-  keeps_before = record { deep_enough = lit≤ tt; nested_enough = lit≤ tt; open_enough = lit≤ tt };
-  breaks = λ h. let deep = h.deep_enough in absurd (omega arith);
+  keeps_before = record { not_too_deep = lit≤ tt; not_too_nested = lit≤ tt; not_too_many_open = lit≤ tt };
+  breaks = λ h. let deep = h.not_too_deep in absurd (omega arith);
 }
 
 pub nots_refused : Fault Source (source_limits 65535) (rows.nots 399 0) (TooDeep (place 1 1))
@@ -183,8 +183,8 @@ over_brackets = record {
   derives = g.statement ones_statement;
   derives_after = g.no_source;
   few_functions = lit≤ tt;
-  keeps_before = record { deep_enough = lit≤ tt; nested_enough = lit≤ tt; open_enough = lit≤ tt };
-  breaks = λ h. let few = h.open_enough in absurd (omega arith);
+  keeps_before = record { not_too_deep = lit≤ tt; not_too_nested = lit≤ tt; not_too_many_open = lit≤ tt };
+  breaks = λ h. let few = h.not_too_many_open in absurd (omega arith);
 }
 
 pub spent : Fault Source rows.one_bracket rows.brackets (TooDeep (place 1 1))
@@ -192,7 +192,7 @@ spent = fault.spent (token (k.Mark m.OpenParenthesis) 0 1 1 1 false ∷ token (k
     (token (k.Mark m.OpenParenthesis) 0 1 1 1 false ∷ token (k.Mark m.OpenParenthesis) 1 2 1 2 false ∷ []) [] [] (token (k.Mark m.OpenParenthesis) 1 2 1 2 false ∷ [])
     (token (k.Word w.With) 2 6 1 3 false) (token (k.Mark m.OpenParenthesis) 0 1 1 1 false)
     (number 1 false ∷ mark m.CloseParenthesis false ∷ mark m.CloseParenthesis false ∷ end false ∷ []) broken refl
-    (record { begins = two_begin; over = λ more tree unlimited keeps. let few = keeps.open_enough in let two = two_open more in absurd (omega arith) }) refl over_brackets
+    (record { begins = two_begin; over = λ more tree unlimited keeps. let few = keeps.not_too_many_open in let two = two_open more in absurd (omega arith) }) refl over_brackets
 
 pub not_only_spent : Fault Source rows.one_bracket rows.brackets (Refused (place 1 3) c.With)
 not_only_spent = breaking (token (k.Mark m.OpenParenthesis) 0 1 1 1 false ∷ token (k.Mark m.OpenParenthesis) 1 2 1 2 false ∷ []) (token (k.Word w.With) 2 6 1 3 false) broken refl

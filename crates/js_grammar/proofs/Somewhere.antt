@@ -11,8 +11,8 @@ use Rattle.js_grammar.specs.Symbols.{Symbol, Symbols, first, end}
 use Rattle.js_grammar.specs.Contexts as context
 use Rattle.js_grammar.specs.Grammar.{SourceElement, SourceElements}
 use Rattle.js_grammar.specs.Grammar as g
-use Rattle.js_grammar.specs.Depth.{depth, stmt_depth}
-use Rattle.js_grammar.specs.Nesting.{nesting, stmt_nesting}
+use Rattle.js_grammar.specs.Heights.{stmt_height}
+use Rattle.js_grammar.specs.Depth.{depth, nesting, by_nodes, by_functions}
 use Rattle.js_grammar.specs.Accepted.{IsUnlimited, Keeps, IsOverAt, most_open, opened, functions_in}
 use Rattle.js_grammar.specs.Laws.{open_behind}
 use Rattle.js_grammar.proofs.Counting.{source}
@@ -22,11 +22,11 @@ use Rattle.js_grammar.proofs.Accepting.{and_then, first-join, joined}
 
 depth-join : (k : ℕ) (ss others : Stmts) → depth ss ≤ k → depth others ≤ k → depth (and_then ss others) ≤ k
 depth-join k Tree.NoStmts others h i = i
-depth-join k (Tree.MoreStmts s ss) others h i = max-le (le_trans (le-max_left (stmt_depth s) (depth ss)) h) (depth-join k ss others (le_trans (le-max_right (stmt_depth s) (depth ss)) h) i)
+depth-join k (Tree.MoreStmts s ss) others h i = max-le (le_trans (le-max_left (stmt_height by_nodes s) (depth ss)) h) (depth-join k ss others (le_trans (le-max_right (stmt_height by_nodes s) (depth ss)) h) i)
 
 nesting-join : (k : ℕ) (ss others : Stmts) → nesting ss ≤ k → nesting others ≤ k → nesting (and_then ss others) ≤ k
 nesting-join k Tree.NoStmts others h i = i
-nesting-join k (Tree.MoreStmts s ss) others h i = max-le (le_trans (le-max_left (stmt_nesting s) (nesting ss)) h) (nesting-join k ss others (le_trans (le-max_right (stmt_nesting s) (nesting ss)) h) i)
+nesting-join k (Tree.MoreStmts s ss) others h i = max-le (le_trans (le-max_left (stmt_height by_functions s) (nesting ss)) h) (nesting-join k ss others (le_trans (le-max_right (stmt_height by_functions s) (nesting ss)) h) i)
 
 open-join : (k n : ℕ) (u v : Symbols) → most_open n u ≤ k → most_open (open_behind n u) v ≤ k → most_open n (u ++ v) ≤ k
 open-join k n [] v h i = i
@@ -52,16 +52,16 @@ decided limits u ss = at (within (depth ss) limits.depth (nat_le (depth ss) limi
   where
     at : ((depth ss ≤ limits.depth) ⊎ (depth ss ≤ limits.depth → ⊥)) → ((nesting ss ≤ limits.nesting) ⊎ (nesting ss ≤ limits.nesting → ⊥))
         → ((most_open 0 u ≤ limits.brackets) ⊎ (most_open 0 u ≤ limits.brackets → ⊥)) → Keeps limits u ss ⊎ (Keeps limits u ss → ⊥)
-    at (inl a) (inl b) (inl c) = inl (record { deep_enough = a; nested_enough = b; open_enough = c })
-    at (inr a) b c = inr (λ keeps. a keeps.deep_enough)
-    at (inl a) (inr b) c = inr (λ keeps. b keeps.nested_enough)
-    at (inl a) (inl b) (inr c) = inr (λ keeps. c keeps.open_enough)
+    at (inl a) (inl b) (inl c) = inl (record { not_too_deep = a; not_too_nested = b; not_too_many_open = c })
+    at (inr a) b c = inr (λ keeps. a keeps.not_too_deep)
+    at (inl a) (inr b) c = inr (λ keeps. b keeps.not_too_nested)
+    at (inl a) (inl b) (inr c) = inr (λ keeps. c keeps.not_too_many_open)
 
 both-keep : {form : Form} {next : Symbol} (limits : Limits) (u v : Symbols) (ss others : Stmts) → SourceElements form context.script u next ss → Keeps limits u ss → Keeps limits v others → Keeps limits (u ++ v) (and_then ss others)
 both-keep limits u v ss others d h i = record {
-  deep_enough = depth-join limits.depth ss others h.deep_enough i.deep_enough;
-  nested_enough = nesting-join limits.nesting ss others h.nested_enough i.nested_enough;
-  open_enough = open-join limits.brackets 0 u v h.open_enough (subst (λ n. most_open n v ≤ limits.brackets) (sym ((source d).closed 0)) i.open_enough);
+  not_too_deep = depth-join limits.depth ss others h.not_too_deep i.not_too_deep;
+  not_too_nested = nesting-join limits.nesting ss others h.not_too_nested i.not_too_nested;
+  not_too_many_open = open-join limits.brackets 0 u v h.not_too_many_open (subst (λ n. most_open n v ≤ limits.brackets) (sym ((source d).closed 0)) i.not_too_many_open);
 }
 
 -- ---- the first that does not
@@ -119,6 +119,6 @@ find {form = form} limits tokens before trees newline middle few db kb (g.source
 
 pub somewhere : (form : Form) (limits : Limits) (tokens : Symbols) (tree : Script) → IsUnlimited form limits.functions tokens tree → (Keeps limits tokens tree → ⊥) → (n : ℕ) × IsOverAt form limits tokens n
 somewhere form limits tokens tree h away = let d = h.derives in
-    find limits tokens [] Tree.NoStmts d.newline (first d.elements (end d.newline)) h.few_functions g.no_source (record { deep_enough = omega arith; nested_enough = omega arith; open_enough = omega arith }) d.derived refl refl d.whole
+    find limits tokens [] Tree.NoStmts d.newline (first d.elements (end d.newline)) h.few_functions g.no_source (record { not_too_deep = omega arith; not_too_nested = omega arith; not_too_many_open = omega arith }) d.derived refl refl d.whole
     (λ keeps. away (subst (λ t. Keeps limits t tree) (sym d.whole) (subst (λ t. Keeps limits (d.elements ++ (end d.newline ∷ [])) t) (then-none tree)
-    (both-keep limits d.elements (end d.newline ∷ []) tree Tree.NoStmts d.derived keeps (record { deep_enough = omega arith; nested_enough = omega arith; open_enough = omega arith })))))
+    (both-keep limits d.elements (end d.newline ∷ []) tree Tree.NoStmts d.derived keeps (record { not_too_deep = omega arith; not_too_nested = omega arith; not_too_many_open = omega arith })))))

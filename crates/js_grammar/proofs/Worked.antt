@@ -32,7 +32,7 @@ three_lines = (
       };
       few_functions = lit≤ tt;
     };
-    keeps = record { deep_enough = lit≤ tt; nested_enough = lit≤ tt; open_enough = lit≤ tt };
+    keeps = record { not_too_deep = lit≤ tt; not_too_nested = lit≤ tt; not_too_many_open = lit≤ tt };
   },
   refl,
 )
@@ -51,7 +51,7 @@ returned_line = (
       };
       few_functions = lit≤ tt;
     };
-    keeps = record { deep_enough = lit≤ tt; nested_enough = lit≤ tt; open_enough = lit≤ tt };
+    keeps = record { not_too_deep = lit≤ tt; not_too_nested = lit≤ tt; not_too_many_open = lit≤ tt };
   },
   refl,
 )
@@ -70,7 +70,7 @@ called_line = (
       };
       few_functions = lit≤ tt;
     };
-    keeps = record { deep_enough = lit≤ tt; nested_enough = lit≤ tt; open_enough = lit≤ tt };
+    keeps = record { not_too_deep = lit≤ tt; not_too_nested = lit≤ tt; not_too_many_open = lit≤ tt };
   },
   refl,
 )
@@ -89,7 +89,7 @@ signs = (
       };
       few_functions = lit≤ tt;
     };
-    keeps = record { deep_enough = lit≤ tt; nested_enough = lit≤ tt; open_enough = lit≤ tt };
+    keeps = record { not_too_deep = lit≤ tt; not_too_nested = lit≤ tt; not_too_many_open = lit≤ tt };
   },
   refl,
 )
@@ -108,7 +108,7 @@ signs_apart = (
       };
       few_functions = lit≤ tt;
     };
-    keeps = record { deep_enough = lit≤ tt; nested_enough = lit≤ tt; open_enough = lit≤ tt };
+    keeps = record { not_too_deep = lit≤ tt; not_too_nested = lit≤ tt; not_too_many_open = lit≤ tt };
   },
   refl,
 )
@@ -127,7 +127,7 @@ new_called = (
       };
       few_functions = lit≤ tt;
     };
-    keeps = record { deep_enough = lit≤ tt; nested_enough = lit≤ tt; open_enough = lit≤ tt };
+    keeps = record { not_too_deep = lit≤ tt; not_too_nested = lit≤ tt; not_too_many_open = lit≤ tt };
   },
   refl,
 )
@@ -146,7 +146,7 @@ literals = (
       };
       few_functions = lit≤ tt;
     };
-    keeps = record { deep_enough = lit≤ tt; nested_enough = lit≤ tt; open_enough = lit≤ tt };
+    keeps = record { not_too_deep = lit≤ tt; not_too_nested = lit≤ tt; not_too_many_open = lit≤ tt };
   },
   refl,
 )
@@ -165,7 +165,7 @@ in_header = (
       };
       few_functions = lit≤ tt;
     };
-    keeps = record { deep_enough = lit≤ tt; nested_enough = lit≤ tt; open_enough = lit≤ tt };
+    keeps = record { not_too_deep = lit≤ tt; not_too_nested = lit≤ tt; not_too_many_open = lit≤ tt };
   },
   refl,
 )
@@ -184,7 +184,7 @@ nearest_if = (
       };
       few_functions = lit≤ tt;
     };
-    keeps = record { deep_enough = lit≤ tt; nested_enough = lit≤ tt; open_enough = lit≤ tt };
+    keeps = record { not_too_deep = lit≤ tt; not_too_nested = lit≤ tt; not_too_many_open = lit≤ tt };
   },
   refl,
 )
@@ -203,7 +203,7 @@ labelled_loop = (
       };
       few_functions = lit≤ tt;
     };
-    keeps = record { deep_enough = lit≤ tt; nested_enough = lit≤ tt; open_enough = lit≤ tt };
+    keeps = record { not_too_deep = lit≤ tt; not_too_nested = lit≤ tt; not_too_many_open = lit≤ tt };
   },
   refl,
 )
@@ -222,7 +222,7 @@ do_line = (
       };
       few_functions = lit≤ tt;
     };
-    keeps = record { deep_enough = lit≤ tt; nested_enough = lit≤ tt; open_enough = lit≤ tt };
+    keeps = record { not_too_deep = lit≤ tt; not_too_nested = lit≤ tt; not_too_many_open = lit≤ tt };
   },
   refl,
 )
@@ -241,7 +241,7 @@ clauses = (
       };
       few_functions = lit≤ tt;
     };
-    keeps = record { deep_enough = lit≤ tt; nested_enough = lit≤ tt; open_enough = lit≤ tt };
+    keeps = record { not_too_deep = lit≤ tt; not_too_nested = lit≤ tt; not_too_many_open = lit≤ tt };
   },
   refl,
 )
@@ -260,7 +260,7 @@ handlers = (
       };
       few_functions = lit≤ tt;
     };
-    keeps = record { deep_enough = lit≤ tt; nested_enough = lit≤ tt; open_enough = lit≤ tt };
+    keeps = record { not_too_deep = lit≤ tt; not_too_nested = lit≤ tt; not_too_many_open = lit≤ tt };
   },
   refl,
 )
@@ -279,7 +279,7 @@ properties = (
       };
       few_functions = lit≤ tt;
     };
-    keeps = record { deep_enough = lit≤ tt; nested_enough = lit≤ tt; open_enough = lit≤ tt };
+    keeps = record { not_too_deep = lit≤ tt; not_too_nested = lit≤ tt; not_too_many_open = lit≤ tt };
   },
   refl,
 )
@@ -298,7 +298,7 @@ news = (
       };
       few_functions = lit≤ tt;
     };
-    keeps = record { deep_enough = lit≤ tt; nested_enough = lit≤ tt; open_enough = lit≤ tt };
+    keeps = record { not_too_deep = lit≤ tt; not_too_nested = lit≤ tt; not_too_many_open = lit≤ tt };
   },
   refl,
 )
@@ -317,7 +317,7 @@ functions = (
       };
       few_functions = lit≤ tt;
     };
-    keeps = record { deep_enough = lit≤ tt; nested_enough = lit≤ tt; open_enough = lit≤ tt };
+    keeps = record { not_too_deep = lit≤ tt; not_too_nested = lit≤ tt; not_too_many_open = lit≤ tt };
   },
   refl,
 )
@@ -336,7 +336,7 @@ groups = (
       };
       few_functions = lit≤ tt;
     };
-    keeps = record { deep_enough = lit≤ tt; nested_enough = lit≤ tt; open_enough = lit≤ tt };
+    keeps = record { not_too_deep = lit≤ tt; not_too_nested = lit≤ tt; not_too_many_open = lit≤ tt };
   },
   refl,
 )
@@ -355,7 +355,7 @@ stub = (
       };
       few_functions = lit≤ tt;
     };
-    keeps = record { deep_enough = lit≤ tt; nested_enough = lit≤ tt; open_enough = lit≤ tt };
+    keeps = record { not_too_deep = lit≤ tt; not_too_nested = lit≤ tt; not_too_many_open = lit≤ tt };
   },
   refl,
 )

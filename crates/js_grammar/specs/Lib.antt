@@ -4,8 +4,9 @@ pub mod Names
 pub mod Contexts
 pub mod Ends
 pub mod Grammar
+pub mod Bounds
+pub mod Heights
 pub mod Depth
-pub mod Nesting
 pub mod Accepted
 pub mod Fault
 pub mod Printed
