@@ -10,6 +10,7 @@ use Rattle.js_tree.specs.declared.tree.PrefixOp.TheVariants as p
 use Rattle.js_tree.specs.Tree.{Expr, Script}
 use Rattle.js_tree.specs.Tree
 use Rattle.js_grammar.specs.declared.form.Limits.{Limits}
+use Rattle.js_grammar.specs.Bounds.{in_source}
 use Rattle.js_grammar.specs.Symbols.{word, mark, name}
 use Rattle.js_grammar.specs.Fault.{Answer, answer}
 
@@ -52,7 +53,7 @@ abbrev pub brackets : List Token
 brackets = token (k.Mark m.OpenParenthesis) 0 1 1 1 false ∷ token (k.Mark m.OpenParenthesis) 1 2 1 2 false ∷ token (k.Word w.With) 2 6 1 3 false ∷ token k.End 6 6 1 7 false ∷ []
 
 abbrev pub one_bracket : Limits
-one_bracket = record { depth = 400; nesting = 64; brackets = 1; functions = 65535 }
+one_bracket = record in_source { brackets = 1 }
 
 -- what is told of a token behind the tokens `function f(a`, if it is the breaking one
 abbrev pub told : TokenKind → Answer

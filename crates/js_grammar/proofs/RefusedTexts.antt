@@ -14,15 +14,16 @@ use Rattle.js_grammar.specs.Grammar as g
 use Rattle.js_grammar.specs.Grammar.{code, Expression, Statement}
 use Rattle.js_grammar.specs.Contexts as context
 use Rattle.std.specs.Fmt.{digits}
-use Rattle.js_grammar.specs.Accepted.{source_limits, written_limits, Accepted, IsOverAt, most_open, opened}
+use Rattle.js_grammar.specs.Bounds.{in_source, in_site, source_functions, written_functions, source_limits}
+use Rattle.js_grammar.specs.Accepted.{Accepted, IsOverAt, most_open, opened}
 use Rattle.js_grammar.specs.Fault.{Fault, Syntax, Refused, TooDeep, TooMany, Begins, Breaks, breaking, over}
 use Rattle.js_grammar.specs.Fault as fault
 use Rattle.js_grammar.specs.RefusedRows as rows
 use Rattle.js_grammar.specs.RefusedRows.{place, token}
-use Rattle.js_grammar.proofs.Placing.{begun}
-use Rattle.js_grammar.proofs.Completing.{never}
+use Rattle.js_grammar.proofs.TokenPlaces.{begun}
+use Rattle.js_grammar.proofs.OneTree.{never}
 
-pub with_statement : Fault Source (source_limits 65535) rows.with_statement (Refused (place 3 5) c.With)
+pub with_statement : Fault Source in_source rows.with_statement (Refused (place 3 5) c.With)
 unfolding digits
 with_statement = breaking (token (k.Word w.Var) 0 3 1 1 false ∷ token (k.Name (codes "a")) 4 5 1 5 false ∷ token (k.Mark m.Semicolon) 5 6 1 6 false ∷ token (k.Word w.Var) 7 10 2 1 true ∷ token (k.Name (codes "b")) 11 12 2 5 false ∷ token (k.Mark m.Semicolon) 12 13 2 6 false ∷ token (k.Name (codes "a")) 14 15 3 1 true ∷ token (k.Mark m.Assign) 15 16 3 2 false ∷ token (k.Number 1) 16 17 3 3 false ∷ token (k.Mark m.Semicolon) 17 18 3 4 false ∷ []) (token (k.Word w.With) 18 22 3 5 false) (record {
   rest = token (k.Mark m.OpenParenthesis) 22 23 3 9 false ∷ token (k.Name (codes "b")) 23 24 3 10 false ∷ token (k.Mark m.CloseParenthesis) 24 25 3 11 false ∷ token (k.Mark m.OpenBrace) 25 26 3 12 false ∷ token (k.Mark m.CloseBrace) 26 27 3 13 false ∷ token k.End 30 30 3 17 false ∷ [];
@@ -32,10 +33,10 @@ with_statement = breaking (token (k.Word w.Var) 0 3 1 1 false ∷ token (k.Name 
     tree = (Tree.MoreStmts (Tree.Variables (Tree.MoreVarItems (codes "a") Tree.NoExpr Tree.NoVarItems)) (Tree.MoreStmts (Tree.Variables (Tree.MoreVarItems (codes "b") Tree.NoExpr Tree.NoVarItems)) (Tree.MoreStmts (Tree.Do (Tree.Assign None (Tree.Ident (codes "a")) (Tree.Num 1))) Tree.NoStmts)));
     unlimited = record { derives = record { elements = word w.Var false ∷ name (codes "a") false ∷ mark m.Semicolon false ∷ word w.Var true ∷ name (codes "b") false ∷ mark m.Semicolon false ∷ name (codes "a") true ∷ mark m.Assign false ∷ number 1 false ∷ mark m.Semicolon false ∷ []; newline = false; whole = refl; derived = (g.source_and (g.statement (g.variables false (g.last_declarator (g.bare false refl)) (written false))) (g.source_and (g.statement (g.variables true (g.last_declarator (g.bare false refl)) (written false))) (g.source_and (g.statement (g.expression (g.assign None m.Assign false (lit≤ tt) refl (g.identifier true (lit≤ tt) refl) refl (g.numeral true false (lit≤ tt))) (λ e. cc) (λ e. cc) (written false))) g.no_source))) }; few_functions = lit≤ tt };
   };
-  ends = λ h. let placed = begun Source 65535 _ h in cc;
+  ends = λ h. let placed = begun Source source_functions _ h in cc;
 }) refl
 
-pub two_names : Fault Source (source_limits 65535) rows.two_names (Syntax (place 1 3))
+pub two_names : Fault Source in_source rows.two_names (Syntax (place 1 3))
 two_names = breaking (token (k.Name (codes "a")) 0 1 1 1 false ∷ []) (token (k.Name (codes "b")) 2 3 1 3 false) (record {
   rest = token k.End 3 3 1 4 false ∷ [];
   whole = refl;
@@ -44,10 +45,10 @@ two_names = breaking (token (k.Name (codes "a")) 0 1 1 1 false ∷ []) (token (k
     tree = (Tree.MoreStmts (Tree.Do (Tree.Ident (codes "a"))) Tree.NoStmts);
     unlimited = record { derives = record { elements = name (codes "a") false ∷ []; newline = false; whole = refl; derived = (g.source_and (g.statement (g.expression (g.identifier false (lit≤ tt) refl) (λ e. cc) (λ e. cc) (at_end refl))) g.no_source) }; few_functions = lit≤ tt };
   };
-  ends = λ h. let placed = begun Source 65535 _ h in cc;
+  ends = λ h. let placed = begun Source source_functions _ h in cc;
 }) refl
 
-pub own_name : Fault Source (source_limits 65535) rows.own_name (Refused (place 1 3) c.DlName)
+pub own_name : Fault Source in_source rows.own_name (Refused (place 1 3) c.DlName)
 own_name = breaking (token (k.Name (codes "x")) 0 1 1 1 false ∷ token (k.Mark m.Assign) 1 2 1 2 false ∷ []) (token (k.Name (codes "$dl_x")) 2 7 1 3 false) (record {
   rest = token k.End 7 7 1 8 false ∷ [];
   whole = refl;
@@ -56,7 +57,7 @@ own_name = breaking (token (k.Name (codes "x")) 0 1 1 1 false ∷ token (k.Mark 
     tree = (Tree.MoreStmts (Tree.Do (Tree.Assign None (Tree.Ident (codes "x")) (Tree.Num 1))) Tree.NoStmts);
     unlimited = record { derives = record { elements = name (codes "x") false ∷ mark m.Assign false ∷ number 1 false ∷ mark m.Semicolon false ∷ []; newline = false; whole = refl; derived = (g.source_and (g.statement (g.expression (g.assign None m.Assign false (lit≤ tt) refl (g.identifier false (lit≤ tt) refl) refl (g.numeral true false (lit≤ tt))) (λ e. cc) (λ e. cc) (written false))) g.no_source) }; few_functions = lit≤ tt };
   };
-  ends = λ h. let placed = begun Source 65535 _ h in cc;
+  ends = λ h. let placed = begun Source source_functions _ h in cc;
 }) refl
 
 pub two_functions : Fault Source (source_limits 1) rows.two_functions (TooMany (place 1 15))
@@ -100,7 +101,7 @@ no_function (suc n) e = cc
 not_statement : (n : ℕ) → Statement Source context.script (not_list n ++ []) (end false) (Tree.Do (rows.not_tree n))
 not_statement n = g.expression (not_expression 1 n (lit≤ tt)) (no_brace n) (no_function n) (at_end refl)
 
-pub nots_accepted : Accepted Source (source_limits 65535) (symbols (rows.nots 398 0)) (rows.nots_tree 398)
+pub nots_accepted : Accepted Source in_source (symbols (rows.nots 398 0)) (rows.nots_tree 398)
 unfolding not_list
 nots_accepted = record {
   unlimited = record {
@@ -110,7 +111,7 @@ nots_accepted = record {
   keeps = record { not_too_deep = lit≤ tt; not_too_nested = lit≤ tt; not_too_many_open = lit≤ tt };
 }
 
-too_deep : IsOverAt Source (source_limits 65535) (symbols (rows.nots 399 0)) 0
+too_deep : IsOverAt Source in_source (symbols (rows.nots 399 0)) 0
 unfolding not_list digits
 too_deep = record {
   before = [];
@@ -130,7 +131,7 @@ too_deep = record {
   breaks = λ h. let deep = h.not_too_deep in absurd (omega arith);
 }
 
-pub nots_refused : Fault Source (source_limits 65535) (rows.nots 399 0) (TooDeep (place 1 1))
+pub nots_refused : Fault Source in_source (rows.nots 399 0) (TooDeep (place 1 1))
 nots_refused = over [] (rows.nots 398 1) (token (k.Mark m.Not) 0 1 1 1 false) refl too_deep
 
 -- ---- a front that is spent
@@ -149,7 +150,7 @@ ones = g.parenthesised false false (lit≤ tt) (g.parenthesised false false (lit
 ones_statement : Statement Source context.script (mark m.OpenParenthesis false ∷ mark m.OpenParenthesis false ∷ number 1 false ∷ mark m.CloseParenthesis false ∷ mark m.CloseParenthesis false ∷ []) (end false) (Tree.Do (Tree.Num 1))
 ones_statement = g.expression (g.parenthesised false false (lit≤ tt) (g.parenthesised false false (lit≤ tt) (g.numeral true false (lit≤ tt)))) (λ e. cc) (λ e. cc) (at_end refl)
 
-two_begin : Begins Source 65535 (mark m.OpenParenthesis false ∷ mark m.OpenParenthesis false ∷ [])
+two_begin : Begins Source source_functions (mark m.OpenParenthesis false ∷ mark m.OpenParenthesis false ∷ [])
 two_begin = record {
   more = number 1 false ∷ mark m.CloseParenthesis false ∷ mark m.CloseParenthesis false ∷ end false ∷ [];
   tree = Tree.MoreStmts (Tree.Do (Tree.Num 1)) Tree.NoStmts;
@@ -164,8 +165,8 @@ two_begin = record {
   };
 }
 
-broken : Breaks Source 65535 rows.brackets (token (k.Mark m.OpenParenthesis) 0 1 1 1 false ∷ token (k.Mark m.OpenParenthesis) 1 2 1 2 false ∷ []) (token (k.Word w.With) 2 6 1 3 false)
-broken = record { rest = token k.End 6 6 1 7 false ∷ []; whole = refl; begins = two_begin; ends = λ h. let placed = begun Source 65535 _ h in cc }
+broken : Breaks Source source_functions rows.brackets (token (k.Mark m.OpenParenthesis) 0 1 1 1 false ∷ token (k.Mark m.OpenParenthesis) 1 2 1 2 false ∷ []) (token (k.Word w.With) 2 6 1 3 false)
+broken = record { rest = token k.End 6 6 1 7 false ∷ []; whole = refl; begins = two_begin; ends = λ h. let placed = begun Source source_functions _ h in cc }
 
 over_brackets : IsOverAt Source rows.one_bracket
     (mark m.OpenParenthesis false ∷ mark m.OpenParenthesis false ∷ number 1 false ∷ mark m.CloseParenthesis false ∷ mark m.CloseParenthesis false ∷ end false ∷ []) 0
@@ -248,7 +249,7 @@ told_other_name = refl
 pub told_end : rows.told k.End ≡ Syntax (place 1 1)
 told_end = refl
 
-pub regular_expression : Fault Source (source_limits 65535) rows.regular_expression (Refused (place 1 3) c.RegExp)
+pub regular_expression : Fault Source in_source rows.regular_expression (Refused (place 1 3) c.RegExp)
 regular_expression = breaking (token (k.Name (codes "x")) 0 1 1 1 false ∷ token (k.Mark m.Assign) 1 2 1 2 false ∷ []) (token (k.Mark m.Slash) 2 3 1 3 false) (record {
   rest = token (k.Name (codes "a")) 3 4 1 4 false ∷ token (k.Mark m.Slash) 4 5 1 5 false ∷ token k.End 8 8 1 9 false ∷ [];
   whole = refl;
@@ -257,10 +258,10 @@ regular_expression = breaking (token (k.Name (codes "x")) 0 1 1 1 false ∷ toke
     tree = (Tree.MoreStmts (Tree.Do (Tree.Assign None (Tree.Ident (codes "x")) (Tree.Num 1))) Tree.NoStmts);
     unlimited = record { derives = record { elements = name (codes "x") false ∷ mark m.Assign false ∷ number 1 false ∷ mark m.Semicolon false ∷ []; newline = false; whole = refl; derived = (g.source_and (g.statement (g.expression (g.assign None m.Assign false (lit≤ tt) refl (g.identifier false (lit≤ tt) refl) refl (g.numeral true false (lit≤ tt))) (λ e. cc) (λ e. cc) (written false))) g.no_source) }; few_functions = lit≤ tt };
   };
-  ends = never Source 65535 (symbols (token (k.Name (codes "x")) 0 1 1 1 false ∷ token (k.Mark m.Assign) 1 2 1 2 false ∷ token (k.Mark m.Slash) 2 3 1 3 false ∷ [])) 60 (λ more. refl);
+  ends = never Source source_functions (symbols (token (k.Name (codes "x")) 0 1 1 1 false ∷ token (k.Mark m.Assign) 1 2 1 2 false ∷ token (k.Mark m.Slash) 2 3 1 3 false ∷ [])) 60 (λ more. refl);
 }) refl
 
-pub function_in_if : Fault Source (source_limits 65535) rows.function_in_if (Refused (place 1 6) c.FunctionPlace)
+pub function_in_if : Fault Source in_source rows.function_in_if (Refused (place 1 6) c.FunctionPlace)
 function_in_if = breaking (token (k.Word w.If) 0 2 1 1 false ∷ token (k.Mark m.OpenParenthesis) 2 3 1 3 false ∷ token (k.Name (codes "a")) 3 4 1 4 false ∷ token (k.Mark m.CloseParenthesis) 4 5 1 5 false ∷ []) (token (k.Word w.Function) 5 13 1 6 false) (record {
   rest = token (k.Name (codes "f")) 14 15 1 15 false ∷ token (k.Mark m.OpenParenthesis) 15 16 1 16 false ∷ token (k.Mark m.CloseParenthesis) 16 17 1 17 false ∷ token (k.Mark m.OpenBrace) 17 18 1 18 false ∷ token (k.Mark m.CloseBrace) 18 19 1 19 false ∷ token k.End 22 22 1 23 false ∷ [];
   whole = refl;
@@ -269,10 +270,10 @@ function_in_if = breaking (token (k.Word w.If) 0 2 1 1 false ∷ token (k.Mark m
     tree = (Tree.MoreStmts (Tree.If (Tree.Ident (codes "a")) Tree.Empty Tree.NoStmt) Tree.NoStmts);
     unlimited = record { derives = record { elements = word w.If false ∷ mark m.OpenParenthesis false ∷ name (codes "a") false ∷ mark m.CloseParenthesis false ∷ mark m.Semicolon false ∷ []; newline = false; whole = refl; derived = (g.source_and (g.statement (g.if false false false (g.identifier false (lit≤ tt) refl) (g.empty false) (λ e. cc))) g.no_source) }; few_functions = lit≤ tt };
   };
-  ends = never Source 65535 (symbols (token (k.Word w.If) 0 2 1 1 false ∷ token (k.Mark m.OpenParenthesis) 2 3 1 3 false ∷ token (k.Name (codes "a")) 3 4 1 4 false ∷ token (k.Mark m.CloseParenthesis) 4 5 1 5 false ∷ token (k.Word w.Function) 5 13 1 6 false ∷ [])) 60 (λ more. refl);
+  ends = never Source source_functions (symbols (token (k.Word w.If) 0 2 1 1 false ∷ token (k.Mark m.OpenParenthesis) 2 3 1 3 false ∷ token (k.Name (codes "a")) 3 4 1 4 false ∷ token (k.Mark m.CloseParenthesis) 4 5 1 5 false ∷ token (k.Word w.Function) 5 13 1 6 false ∷ [])) 60 (λ more. refl);
 }) refl
 
-pub eval_called : Fault Source (source_limits 65535) rows.eval_called (Refused (place 1 3) c.Eval)
+pub eval_called : Fault Source in_source rows.eval_called (Refused (place 1 3) c.Eval)
 eval_called = breaking (token (k.Name (codes "x")) 0 1 1 1 false ∷ token (k.Mark m.Assign) 1 2 1 2 false ∷ []) (token (k.Name (codes "eval")) 2 6 1 3 false) (record {
   rest = token (k.Mark m.OpenParenthesis) 6 7 1 7 false ∷ token (k.Number 1) 7 8 1 8 false ∷ token (k.Mark m.CloseParenthesis) 8 9 1 9 false ∷ token k.End 12 12 1 13 false ∷ [];
   whole = refl;
@@ -281,10 +282,10 @@ eval_called = breaking (token (k.Name (codes "x")) 0 1 1 1 false ∷ token (k.Ma
     tree = (Tree.MoreStmts (Tree.Do (Tree.Assign None (Tree.Ident (codes "x")) (Tree.Num 1))) Tree.NoStmts);
     unlimited = record { derives = record { elements = name (codes "x") false ∷ mark m.Assign false ∷ number 1 false ∷ mark m.Semicolon false ∷ []; newline = false; whole = refl; derived = (g.source_and (g.statement (g.expression (g.assign None m.Assign false (lit≤ tt) refl (g.identifier false (lit≤ tt) refl) refl (g.numeral true false (lit≤ tt))) (λ e. cc) (λ e. cc) (written false))) g.no_source) }; few_functions = lit≤ tt };
   };
-  ends = never Source 65535 (symbols (token (k.Name (codes "x")) 0 1 1 1 false ∷ token (k.Mark m.Assign) 1 2 1 2 false ∷ token (k.Name (codes "eval")) 2 6 1 3 false ∷ [])) 60 (λ more. refl);
+  ends = never Source source_functions (symbols (token (k.Name (codes "x")) 0 1 1 1 false ∷ token (k.Mark m.Assign) 1 2 1 2 false ∷ token (k.Name (codes "eval")) 2 6 1 3 false ∷ [])) 60 (λ more. refl);
 }) refl
 
-pub callee_read : Fault Source (source_limits 65535) rows.callee_read (Refused (place 1 3) c.Callee)
+pub callee_read : Fault Source in_source rows.callee_read (Refused (place 1 3) c.Callee)
 callee_read = breaking (token (k.Name (codes "a")) 0 1 1 1 false ∷ token (k.Mark m.Dot) 1 2 1 2 false ∷ []) (token (k.Name (codes "callee")) 2 8 1 3 false) (record {
   rest = token k.End 8 8 1 9 false ∷ [];
   whole = refl;
@@ -293,10 +294,10 @@ callee_read = breaking (token (k.Name (codes "a")) 0 1 1 1 false ∷ token (k.Ma
     tree = (Tree.MoreStmts (Tree.Do (Tree.Dot (Tree.Ident (codes "a")) (codes "b"))) Tree.NoStmts);
     unlimited = record { derives = record { elements = name (codes "a") false ∷ mark m.Dot false ∷ name (codes "b") false ∷ mark m.Semicolon false ∷ []; newline = false; whole = refl; derived = (g.source_and (g.statement (g.expression (g.dot 18 false false (lit≤ tt) (lit≤ tt) (lit≤ tt) (g.identifier false (lit≤ tt) refl) refl) (λ e. cc) (λ e. cc) (written false))) g.no_source) }; few_functions = lit≤ tt };
   };
-  ends = never Source 65535 (symbols (token (k.Name (codes "a")) 0 1 1 1 false ∷ token (k.Mark m.Dot) 1 2 1 2 false ∷ token (k.Name (codes "callee")) 2 8 1 3 false ∷ [])) 60 (λ more. refl);
+  ends = never Source source_functions (symbols (token (k.Name (codes "a")) 0 1 1 1 false ∷ token (k.Mark m.Dot) 1 2 1 2 false ∷ token (k.Name (codes "callee")) 2 8 1 3 false ∷ [])) 60 (λ more. refl);
 }) refl
 
-pub arguments_declared : Fault Source (source_limits 65535) rows.arguments_declared (Refused (place 1 5) c.Arguments)
+pub arguments_declared : Fault Source in_source rows.arguments_declared (Refused (place 1 5) c.Arguments)
 arguments_declared = breaking (token (k.Word w.Var) 0 3 1 1 false ∷ []) (token (k.Name (codes "arguments")) 4 13 1 5 false) (record {
   rest = token k.End 13 13 1 14 false ∷ [];
   whole = refl;
@@ -305,10 +306,10 @@ arguments_declared = breaking (token (k.Word w.Var) 0 3 1 1 false ∷ []) (token
     tree = (Tree.MoreStmts (Tree.Variables (Tree.MoreVarItems (codes "b") Tree.NoExpr Tree.NoVarItems)) Tree.NoStmts);
     unlimited = record { derives = record { elements = word w.Var false ∷ name (codes "b") false ∷ mark m.Semicolon false ∷ []; newline = false; whole = refl; derived = (g.source_and (g.statement (g.variables false (g.last_declarator (g.bare false refl)) (written false))) g.no_source) }; few_functions = lit≤ tt };
   };
-  ends = never Source 65535 (symbols (token (k.Word w.Var) 0 3 1 1 false ∷ token (k.Name (codes "arguments")) 4 13 1 5 false ∷ [])) 60 (λ more. refl);
+  ends = never Source source_functions (symbols (token (k.Word w.Var) 0 3 1 1 false ∷ token (k.Name (codes "arguments")) 4 13 1 5 false ∷ [])) 60 (λ more. refl);
 }) refl
 
-pub late_in_hexadecimal : Fault Written (written_limits 196605) rows.late_in_hexadecimal (Syntax (place 1 16))
+pub late_in_hexadecimal : Fault Written in_site rows.late_in_hexadecimal (Syntax (place 1 16))
 unfolding digits
 late_in_hexadecimal = breaking (token (k.Name (codes "x")) 0 1 1 1 false ∷ token (k.Mark m.Assign) 1 2 1 2 false ∷ token (k.Name (codes "eval")) 2 6 1 3 false ∷ token (k.Mark m.OpenParenthesis) 6 7 1 7 false ∷ token (k.Name (codes "$dl_get")) 7 14 1 8 false ∷ token (k.Mark m.OpenParenthesis) 14 15 1 15 false ∷ []) (token (k.Number 2) 15 18 1 16 false) (record {
   rest = token (k.Mark m.CloseParenthesis) 18 19 1 19 false ∷ token (k.Mark m.CloseParenthesis) 19 20 1 20 false ∷ token k.End 20 20 1 21 false ∷ [];
@@ -318,5 +319,5 @@ late_in_hexadecimal = breaking (token (k.Name (codes "x")) 0 1 1 1 false ∷ tok
     tree = (Tree.MoreStmts (Tree.Do (Tree.Assign None (Tree.Ident (codes "x")) (Tree.Late 2))) Tree.NoStmts);
     unlimited = record { derives = record { elements = name (codes "x") false ∷ mark m.Assign false ∷ name (codes "eval") false ∷ mark m.OpenParenthesis false ∷ name (codes "$dl_get") false ∷ mark m.OpenParenthesis false ∷ number 2 false ∷ mark m.CloseParenthesis false ∷ mark m.CloseParenthesis false ∷ mark m.Semicolon false ∷ []; newline = false; whole = refl; derived = (g.source_and (g.statement (g.expression (g.assign None m.Assign false (lit≤ tt) refl (g.identifier false (lit≤ tt) refl) refl (g.late false false false false false false false (lit≤ tt) refl refl)) (λ e. cc) (λ e. cc) (written false))) g.no_source) }; few_functions = lit≤ tt };
   };
-  ends = never Written 196605 (symbols (token (k.Name (codes "x")) 0 1 1 1 false ∷ token (k.Mark m.Assign) 1 2 1 2 false ∷ token (k.Name (codes "eval")) 2 6 1 3 false ∷ token (k.Mark m.OpenParenthesis) 6 7 1 7 false ∷ token (k.Name (codes "$dl_get")) 7 14 1 8 false ∷ token (k.Mark m.OpenParenthesis) 14 15 1 15 false ∷ token (k.Number 2) 15 18 1 16 false ∷ [])) 60 (λ more. refl);
+  ends = never Written written_functions (symbols (token (k.Name (codes "x")) 0 1 1 1 false ∷ token (k.Mark m.Assign) 1 2 1 2 false ∷ token (k.Name (codes "eval")) 2 6 1 3 false ∷ token (k.Mark m.OpenParenthesis) 6 7 1 7 false ∷ token (k.Name (codes "$dl_get")) 7 14 1 8 false ∷ token (k.Mark m.OpenParenthesis) 14 15 1 15 false ∷ token (k.Number 2) 15 18 1 16 false ∷ [])) 60 (λ more. refl);
 }) refl

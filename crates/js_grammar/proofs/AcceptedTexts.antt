@@ -13,13 +13,13 @@ use Rattle.js_grammar.specs.declared.form.Form.TheVariants.{Source, Written}
 use Rattle.js_grammar.specs.Symbols.{word, mark, name, number, string}
 use Rattle.js_grammar.specs.Operators.{LogicalOr, Operation}
 use Rattle.js_grammar.specs.Ends.{at_line, at_brace, at_end, written, before_line, before_brace}
-use Rattle.js_grammar.specs.Accepted.{source_limits, written_limits}
+use Rattle.js_grammar.specs.Bounds.{in_source, in_site}
 use Rattle.js_grammar.specs.Grammar as g
 use Rattle.js_grammar.specs.PrintedText.{body_text, entry_text, func_text}
 use Rattle.js_grammar.specs.Rows as rows
 
 -- `a` LF `++` LF `b`
-pub three_lines : rows.IsWorked Source (source_limits 65535) rows.three_lines rows.three_lines_tree (codes "a;++b;\n")
+pub three_lines : rows.IsWorked Source in_source rows.three_lines rows.three_lines_tree (codes "a;++b;\n")
 unfolding unicode_ident utf16_chars digits
 three_lines = (
   record {
@@ -38,7 +38,7 @@ three_lines = (
 )
 
 -- `function f(){return` LF `x}`
-pub returned_line : rows.IsWorked Source (source_limits 65535) rows.returned_line rows.returned_line_tree (codes "function f(){return;x;}\n")
+pub returned_line : rows.IsWorked Source in_source rows.returned_line rows.returned_line_tree (codes "function f(){return;x;}\n")
 unfolding unicode_ident utf16_chars digits
 returned_line = (
   record {
@@ -57,7 +57,7 @@ returned_line = (
 )
 
 -- `a` LF `(b)`
-pub called_line : rows.IsWorked Source (source_limits 65535) rows.called_line rows.called_line_tree (codes "a(b);\n")
+pub called_line : rows.IsWorked Source in_source rows.called_line rows.called_line_tree (codes "a(b);\n")
 unfolding unicode_ident utf16_chars digits
 called_line = (
   record {
@@ -76,7 +76,7 @@ called_line = (
 )
 
 -- `x=- -a+ +0x1F`
-pub signs : rows.IsWorked Source (source_limits 65535) rows.signs rows.signs_tree (codes "x=- -a+ +31;\n")
+pub signs : rows.IsWorked Source in_source rows.signs rows.signs_tree (codes "x=- -a+ +31;\n")
 unfolding unicode_ident utf16_chars digits
 signs = (
   record {
@@ -95,7 +95,7 @@ signs = (
 )
 
 -- `a+ ++b- --c;d++ +e`
-pub signs_apart : rows.IsWorked Source (source_limits 65535) rows.signs_apart rows.signs_apart_tree (codes "a+ ++b- --c;d+++e;\n")
+pub signs_apart : rows.IsWorked Source in_source rows.signs_apart rows.signs_apart_tree (codes "a+ ++b- --c;d+++e;\n")
 unfolding unicode_ident utf16_chars digits
 signs_apart = (
   record {
@@ -114,7 +114,7 @@ signs_apart = (
 )
 
 -- `new (a().b)(1)`
-pub new_called : rows.IsWorked Source (source_limits 65535) rows.new_called rows.new_called_tree (codes "new(a().b)(1);\n")
+pub new_called : rows.IsWorked Source in_source rows.new_called rows.new_called_tree (codes "new(a().b)(1);\n")
 unfolding unicode_ident utf16_chars digits
 new_called = (
   record {
@@ -133,7 +133,7 @@ new_called = (
 )
 
 -- `var a=[1,,2,],o={"if":1,"b":2}`
-pub literals : rows.IsWorked Source (source_limits 65535) rows.literals rows.literals_tree (codes "var a=[1,,2],o={\"if\":1,b:2};\n")
+pub literals : rows.IsWorked Source in_source rows.literals rows.literals_tree (codes "var a=[1,,2],o={\"if\":1,b:2};\n")
 unfolding unicode_ident utf16_chars digits
 literals = (
   record {
@@ -152,7 +152,7 @@ literals = (
 )
 
 -- `for(var i=(1 in x);;);`
-pub in_header : rows.IsWorked Source (source_limits 65535) rows.in_header rows.in_header_tree (codes "for(var i=(1 in x);;);\n")
+pub in_header : rows.IsWorked Source in_source rows.in_header rows.in_header_tree (codes "for(var i=(1 in x);;);\n")
 unfolding unicode_ident utf16_chars digits
 in_header = (
   record {
@@ -171,7 +171,7 @@ in_header = (
 )
 
 -- `if(a)if(b)c;else d`
-pub nearest_if : rows.IsWorked Source (source_limits 65535) rows.nearest_if rows.nearest_if_tree (codes "if(a)if(b)c;else d;\n")
+pub nearest_if : rows.IsWorked Source in_source rows.nearest_if rows.nearest_if_tree (codes "if(a)if(b)c;else d;\n")
 unfolding unicode_ident utf16_chars digits
 nearest_if = (
   record {
@@ -190,7 +190,7 @@ nearest_if = (
 )
 
 -- `l:while(a){if(b)continue l;else break}` LF `c`
-pub labelled_loop : rows.IsWorked Source (source_limits 65535) rows.labelled_loop rows.labelled_loop_tree (codes "l:while(a){if(b)continue l;else break;}c;\n")
+pub labelled_loop : rows.IsWorked Source in_source rows.labelled_loop rows.labelled_loop_tree (codes "l:while(a){if(b)continue l;else break;}c;\n")
 unfolding unicode_ident utf16_chars digits
 labelled_loop = (
   record {
@@ -209,7 +209,7 @@ labelled_loop = (
 )
 
 -- `do;while(a)` LF `(b)`
-pub do_line : rows.IsWorked Source (source_limits 65535) rows.do_line rows.do_line_tree (codes "do;while(a);b;\n")
+pub do_line : rows.IsWorked Source in_source rows.do_line rows.do_line_tree (codes "do;while(a);b;\n")
 unfolding unicode_ident utf16_chars digits
 do_line = (
   record {
@@ -228,7 +228,7 @@ do_line = (
 )
 
 -- `switch(a){case 1:b` LF `case 2:default:break}`
-pub clauses : rows.IsWorked Source (source_limits 65535) rows.clauses rows.clauses_tree (codes "switch(a){case 1:b;case 2:default:break;}\n")
+pub clauses : rows.IsWorked Source in_source rows.clauses rows.clauses_tree (codes "switch(a){case 1:b;case 2:default:break;}\n")
 unfolding unicode_ident utf16_chars digits
 clauses = (
   record {
@@ -247,7 +247,7 @@ clauses = (
 )
 
 -- `try{throw a}catch(e){}finally{}`
-pub handlers : rows.IsWorked Source (source_limits 65535) rows.handlers rows.handlers_tree (codes "try{throw a;}catch(e){}finally{}\n")
+pub handlers : rows.IsWorked Source in_source rows.handlers rows.handlers_tree (codes "try{throw a;}catch(e){}finally{}\n")
 unfolding unicode_ident utf16_chars digits
 handlers = (
   record {
@@ -266,7 +266,7 @@ handlers = (
 )
 
 -- `for(var k in o)r[k]=o[k]||!k`
-pub properties : rows.IsWorked Source (source_limits 65535) rows.properties rows.properties_tree (codes "for(var k in o)r[k]=o[k]||!k;\n")
+pub properties : rows.IsWorked Source in_source rows.properties rows.properties_tree (codes "for(var k in o)r[k]=o[k]||!k;\n")
 unfolding unicode_ident utf16_chars digits
 properties = (
   record {
@@ -285,7 +285,7 @@ properties = (
 )
 
 -- `new new a;(new b).c`
-pub news : rows.IsWorked Source (source_limits 65535) rows.news rows.news_tree (codes "new new a()();new b().c;\n")
+pub news : rows.IsWorked Source in_source rows.news rows.news_tree (codes "new new a()();new b().c;\n")
 unfolding unicode_ident utf16_chars digits
 news = (
   record {
@@ -304,7 +304,7 @@ news = (
 )
 
 -- `(function(){})();(function f(a,b){}).c`
-pub functions : rows.IsWorked Source (source_limits 65535) rows.functions rows.functions_tree (codes "(function(){})();(function f(a,b){}).c;\n")
+pub functions : rows.IsWorked Source in_source rows.functions rows.functions_tree (codes "(function(){})();(function f(a,b){}).c;\n")
 unfolding unicode_ident utf16_chars digits
 functions = (
   record {
@@ -323,7 +323,7 @@ functions = (
 )
 
 -- `a-b-c;a-(b-c);a?b:c?d:e;a=b=c;(a,b)?c:d`
-pub groups : rows.IsWorked Source (source_limits 65535) rows.groups rows.groups_tree (codes "a-b-c;a-(b-c);a?b:c?d:e;a=b=c;(a,b)?c:d;\n")
+pub groups : rows.IsWorked Source in_source rows.groups rows.groups_tree (codes "a-b-c;a-(b-c);a?b:c?d:e;a=b=c;(a,b)?c:d;\n")
 unfolding unicode_ident utf16_chars digits
 groups = (
   record {
@@ -342,7 +342,7 @@ groups = (
 )
 
 -- `function g(){return eval($dl_get(2)).apply(this,arguments);}`
-pub stub : rows.IsWorked Written (written_limits 196605) rows.stub rows.stub_tree (codes "function g(){return eval($dl_get(2)).apply(this,arguments);}\n")
+pub stub : rows.IsWorked Written in_site rows.stub rows.stub_tree (codes "function g(){return eval($dl_get(2)).apply(this,arguments);}\n")
 unfolding unicode_ident utf16_chars digits
 stub = (
   record {

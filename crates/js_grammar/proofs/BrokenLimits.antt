@@ -15,8 +15,8 @@ use Rattle.js_grammar.specs.Heights.{stmt_height}
 use Rattle.js_grammar.specs.Depth.{depth, nesting, by_nodes, by_functions}
 use Rattle.js_grammar.specs.Accepted.{IsUnlimited, Keeps, IsOverAt, most_open, opened, functions_in}
 use Rattle.js_grammar.specs.Laws.{open_behind}
-use Rattle.js_grammar.proofs.Counting.{source}
-use Rattle.js_grammar.proofs.Accepting.{and_then, first-join, joined}
+use Rattle.js_grammar.proofs.Counts.{source}
+use Rattle.js_grammar.proofs.NoFault.{and_then, first-join, joined}
 
 -- ---- parts that keep the limits are a whole that does
 

@@ -14,17 +14,17 @@ use Rattle.js_grammar.specs.Ends.{ends_changed, kind_reach}
 use Rattle.js_grammar.specs.Grammar.{Formals, Expression, NewCallee, Arguments, ArgumentList, ElementList, PropertyList, FunctionRest, Declarator, DeclaratorList, OptionalExpression, ForFirst, Block, Statement, StatementList, CaseClauses, SourceElement, SourceElements, code}
 use Rattle.js_grammar.specs.Grammar as g
 use Rattle.js_grammar.proofs.Levels.{more, expression-tokens}
-use Rattle.js_grammar.proofs.Beginning.{Starts, one, begins, begins_operand, operand-starts, callee-starts, expression-starts, argument-starts, operand-end, callee-end, last-of, ends-any, colon_first, no_label, expression-no-label}
-use Rattle.js_grammar.proofs.Beginning as start
-use Rattle.js_grammar.proofs.Reader.{State, done, stuck, comma, comma_tail, assign, choice, climb, tail, unary, postfix, operand, links, arguments, argument_list, elements, pairs, rest, formals, declarator, declarators, optional, statement, list, source, clauses, To, step, Goes, here, then_on, onwards, stepped}
-use Rattle.js_grammar.proofs.Reader.{one_end}
+use Rattle.js_grammar.proofs.EndTokens.{Starts, one, begins, begins_operand, operand-starts, callee-starts, expression-starts, argument-starts, operand-end, callee-end, last-of, ends-any, colon_first, no_label, expression-no-label}
+use Rattle.js_grammar.proofs.EndTokens as start
+use Rattle.js_grammar.proofs.Machine.{State, done, stuck, comma, comma_tail, assign, choice, climb, tail, unary, postfix, operand, links, arguments, argument_list, elements, pairs, rest, formals, declarator, declarators, optional, statement, list, source, clauses, To, step, Goes, here, then_on, onwards, stepped}
+use Rattle.js_grammar.proofs.Machine.{one_end}
 use Rattle.js_grammar.specs.Fault.{Begins}
-use Rattle.js_grammar.proofs.Reader as mc
-use Rattle.js_grammar.proofs.Reader.{stuck}
+use Rattle.js_grammar.proofs.Machine as mc
+use Rattle.js_grammar.proofs.Machine.{stuck}
 use Rattle.js_grammar.specs.Names.{get_name}
 use Rattle.js_grammar.specs.Accepted.{Derives}
-use Rattle.js_grammar.proofs.Stages.{front, reach_of, links-stop, tail-stop, new-stop, level-high, sign-reach, operates, prefixed, assigned, assigns-reach, no-prefix, Known, by-commas, by-choice, by-climb, by-unary, by-operand, by-linked, read-comma, read-assign, read-right, placed}
-use Rattle.js_grammar.proofs.Following.{same, from, not-eval, same-reach, same-reach-of, starting, elements-start, arguments-start, optional-start, post-reach, post-step, open_arguments, call-step, new-step, links-paren, function-step, formals-read, declared_in, list_in, list-same, list-none, bare-stop, declared-comma, declarators-stop, comma-declared, semicolon-declared, in-declared, more-items, declarator-list-tokens, ended-read, ends-follow, list-follow, may_follow, stops, closes, not-finally, list-start, source-start, list-stop, source-stop, stated-start, if-stop, finally-stop, header-start, return-start, jump-read, return-read, front-join, ends-colon, closer, statement-starts, list-may, source-may, clauses-stop, beginning, told, closes-stop, clauses-end}
+use Rattle.js_grammar.proofs.MachineLevels.{front, reach_of, links-stop, tail-stop, new-stop, level-high, sign-reach, operates, prefixed, assigned, assigns-reach, no-prefix, Known, by-commas, by-choice, by-climb, by-unary, by-operand, by-linked, read-comma, read-assign, read-right, placed}
+use Rattle.js_grammar.proofs.MachineSteps.{same, from, not-eval, same-reach, same-reach-of, starting, elements-start, arguments-start, optional-start, post-reach, post-step, open_arguments, call-step, new-step, links-paren, function-step, formals-read, declared_in, list_in, list-same, list-none, bare-stop, declared-comma, declarators-stop, comma-declared, semicolon-declared, in-declared, more-items, declarator-list-tokens, ended-read, ends-follow, list-follow, may_follow, stops, closes, not-finally, list-start, source-start, list-stop, source-stop, stated-start, if-stop, finally-stop, header-start, return-start, jump-read, return-read, front-join, ends-colon, closer, statement-starts, list-may, source-may, clauses-stop, beginning, told, closes-stop, clauses-end}
 
 -- ---- the grammar
 

@@ -19,12 +19,12 @@ use Rattle.js_grammar.specs.Ends as e
 use Rattle.js_grammar.specs.Grammar.{Formals, Expression, NewCallee, Arguments, ArgumentList, ElementList, PropertyList, FunctionRest, Declarator, DeclaratorList, OptionalExpression, ForFirst, Block, Statement, StatementList, CaseClauses, SourceElement, SourceElements, code}
 use Rattle.js_grammar.specs.Grammar as g
 use Rattle.js_grammar.proofs.Levels.{is_empty, more}
-use Rattle.js_grammar.proofs.Beginning.{Starts, one, begins, begins_operand, operand-starts, callee-starts, expression-starts, argument-starts, operand-end, callee-end, last-of, ends-any, colon_first, no_label, expression-no-label}
-use Rattle.js_grammar.proofs.Beginning as start
-use Rattle.js_grammar.proofs.Reader.{State, done, stuck, comma, comma_tail, assign, choice, climb, tail, unary, postfix, operand, links, arguments, argument_list, elements, pairs, rest, formals, declarator, declarators, optional, statement, list, source, clauses, To, step, Goes, here, then_on, onwards, stepped}
-use Rattle.js_grammar.proofs.Reader.{one_end}
-use Rattle.js_grammar.proofs.Reader as mc
-use Rattle.js_grammar.proofs.Stages.{front, kind_reach_in, reach_in, reach_of}
+use Rattle.js_grammar.proofs.EndTokens.{Starts, one, begins, begins_operand, operand-starts, callee-starts, expression-starts, argument-starts, operand-end, callee-end, last-of, ends-any, colon_first, no_label, expression-no-label}
+use Rattle.js_grammar.proofs.EndTokens as start
+use Rattle.js_grammar.proofs.Machine.{State, done, stuck, comma, comma_tail, assign, choice, climb, tail, unary, postfix, operand, links, arguments, argument_list, elements, pairs, rest, formals, declarator, declarators, optional, statement, list, source, clauses, To, step, Goes, here, then_on, onwards, stepped}
+use Rattle.js_grammar.proofs.Machine.{one_end}
+use Rattle.js_grammar.proofs.Machine as mc
+use Rattle.js_grammar.proofs.MachineLevels.{front, kind_reach_in, reach_in, reach_of}
 
 -- ---- small laws
 

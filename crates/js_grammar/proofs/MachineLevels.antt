@@ -16,8 +16,8 @@ use Rattle.js_grammar.specs.declared.form.Form.{Form}
 use Rattle.js_grammar.specs.Symbols.{Symbol, Symbols, first, end}
 use Rattle.js_grammar.specs.Operators.{Operator, LogicalOr, LogicalAnd, Operation, joined, sign, level, may_operate, prefix_sign, assignment}
 use Rattle.js_grammar.specs.Ends.{ends_changed, kind_reach}
-use Rattle.js_grammar.proofs.Beginning.{Starts, begins_operand}
-use Rattle.js_grammar.proofs.Reader.{State, comma, comma_tail, assign, choice, climb, tail, unary, postfix, operand, links, To, comma_by, assign_to, choice_by, tail_by, unary_by, postfix_by, links_by, new_by, after_new, operator_of, prefix_of, Goes, here, then_on, onwards, stepped}
+use Rattle.js_grammar.proofs.EndTokens.{Starts, begins_operand}
+use Rattle.js_grammar.proofs.Machine.{State, comma, comma_tail, assign, choice, climb, tail, unary, postfix, operand, links, To, comma_by, assign_to, choice_by, tail_by, unary_by, postfix_by, links_by, new_by, after_new, operator_of, prefix_of, Goes, here, then_on, onwards, stepped}
 
 -- ---- the token that follows
 

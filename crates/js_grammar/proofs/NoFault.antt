@@ -16,9 +16,9 @@ use Rattle.js_grammar.specs.Depth.{depth, nesting, by_nodes, by_functions}
 use Rattle.js_grammar.specs.Accepted.{Derives, Accepted, IsOverAt, most_open, opened}
 use Rattle.js_grammar.specs.Fault.{Fault, Answer, breaking, over, spent}
 use Rattle.js_grammar.specs.Laws.{open_behind}
-use Rattle.js_grammar.proofs.Counting.{source}
-use Rattle.js_grammar.proofs.Breaking.{not_broken}
-use Rattle.js_grammar.proofs.Completing.{one_tree}
+use Rattle.js_grammar.proofs.Counts.{source}
+use Rattle.js_grammar.proofs.BreakingTokens.{not_broken}
+use Rattle.js_grammar.proofs.OneTree.{one_tree}
 
 abbrev pub and_then : Stmts → Stmts → Stmts
 and_then Tree.NoStmts others = others

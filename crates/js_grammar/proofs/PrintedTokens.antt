@@ -22,7 +22,7 @@ use Rattle.js_grammar.specs.Accepted.{Derives}
 use Rattle.js_grammar.specs.Printed.{Kinds, level_of, is_number, is_function, has_call, enclosed, enclosed_if, needs, operand_for, operand, key_kind, assignment_mark, prefix_least, names, begins_as_another, expr, exprs, other_exprs, maybe_expr, elements, pairs, stmt, stmts, for_init, var_items, other_var_items, initialiser, cases}
 use Rattle.js_grammar.specs.ReadsBack.{on_line, line_of}
 use Rattle.js_grammar.proofs.Levels.{lower, widen, expression-any}
-use Rattle.js_grammar.proofs.Starting.{list-follows, elements-follow}
+use Rattle.js_grammar.proofs.NoElse.{list-follows, elements-follow}
 use Rattle.js_grammar.proofs.Keys.{key_back}
 
 -- ---- lists of tokens
