@@ -1,5 +1,6 @@
--- A machine that reads tokens from the left, one step at a time. It refuses little: it serves to show that tokens have one tree.
-use Rattle.std.proofs.Common.{zero, if◌then◌else◌, ◌≡◌, ℕ, suc, nat_le, Bool, true, false, not, ◌&&◌, List, [], ◌∷◌, Option, Some, None, refl, ap, sym, ◌∙◌, subst}
+-- A machine that reads tokens from the left, one step at a time, and is stuck at the first token with which none goes on. It shows that
+-- tokens have one tree, and that no script begins with tokens.
+use Rattle.std.proofs.Common.{zero, if◌then◌else◌, ◌≡◌, ℕ, suc, nat_le, Bool, true, false, not, ◌&&◌, ◌||◌, List, [], ◌∷◌, ◌++◌, Option, Some, None, refl, ap, sym, ◌∙◌, subst}
 use Rattle.js_lexer.specs.declared.mark.Mark.TheVariants as m
 use Rattle.js_lexer.specs.declared.word.Word.TheVariants as w
 use Rattle.js_lexer.specs.declared.token.TokenKind.{TokenKind}
@@ -14,9 +15,11 @@ use Rattle.js_tree.specs.Tree
 use Rattle.js_grammar.specs.declared.form.Form.{Form}
 use Rattle.js_grammar.specs.declared.form.Form.TheVariants.{Source, Written}
 use Rattle.js_grammar.specs.Symbols.{Symbol, Symbols}
-use Rattle.js_grammar.specs.Operators.{Operator, LogicalOr, LogicalAnd, Operation, joined, level, may_operate}
+use Rattle.js_grammar.specs.Operators.{Operator, LogicalOr, LogicalAnd, Operation, joined, level, may_operate, changes, is_target}
 use Rattle.js_lexer.specs.Words.{is_spelled}
-use Rattle.js_grammar.specs.Names.{get_name, is_function_number, key_of, is_eval, is_reference, is_binding, is_property}
+use Rattle.js_grammar.specs.Names.{get_name, is_function_number, key_of, is_eval, is_reference, is_binding, is_property, is_among, is_distinct}
+use Rattle.js_grammar.specs.Contexts.{Context}
+use Rattle.js_grammar.specs.Contexts as context
 use Rattle.js_grammar.specs.Grammar.{code}
 
 -- what is to be read next, and what comes of it with the tokens that are left
@@ -39,17 +42,24 @@ pub data State : Type 0 where
   elements : (Elements → Symbols → State) → Symbols → State
   pairs : (Pairs → Symbols → State) → Symbols → State
   rest : (List Name → Stmts → Symbols → State) → Symbols → State
-  formals : (List Name → Symbols → State) → Symbols → State
+  -- behind these formals: further ones, or one at least
+  formals : List Name → (List Name → Symbols → State) → Symbols → State
+  formal : List Name → (List Name → Symbols → State) → Symbols → State
   declarator : Bool → (Name → MaybeExpr → Symbols → State) → Symbols → State
   declarators : Bool → (VarItems → Symbols → State) → Symbols → State
   optional : (MaybeExpr → Symbols → State) → Symbols → State
-  statement : (Stmt → Symbols → State) → Symbols → State
-  list : (Stmts → Symbols → State) → Symbols → State
-  source : (Stmts → Symbols → State) → Symbols → State
-  clauses : (Cases → Symbols → State) → Symbols → State
+  statement : Context → (Stmt → Symbols → State) → Symbols → State
+  list : Context → (Stmts → Symbols → State) → Symbols → State
+  source : Context → (Stmts → Symbols → State) → Symbols → State
+  -- with `default`, or without
+  clauses : Context → Bool → (Cases → Symbols → State) → Symbols → State
 
 abbrev pub To : Type 0 → Type 0
 To A = A → Symbols → State
+
+abbrev pub guard : Bool → State → State
+guard true s = s
+guard false s = stuck
 
 -- ---- single tokens
 
@@ -89,15 +99,27 @@ abbrev pub is_while : TokenKind → Bool
 is_while (k.Word w.While) = true
 is_while _ = false
 
--- behind a semicolon, if one comes
-abbrev pub ended : Symbols → Symbols
-ended [] = []
-ended (s ∷ ts) = if is_semicolon s.kind then ts else s ∷ ts
+abbrev pub is_end : TokenKind → Bool
+is_end k.End = true
+is_end _ = false
 
--- the same on the line
-abbrev pub ended_at_once : Symbols → Symbols
-ended_at_once [] = []
-ended_at_once (s ∷ ts) = if is_semicolon s.kind && not s.newline then ts else s ∷ ts
+-- behind the end of a statement, which is a semicolon, or where it may be inserted
+abbrev pub ended_by : Bool → Bool → (Symbols → State) → Symbol → Symbols → State
+ended_by true inserted next s ts = next ts
+ended_by false true next s ts = next (s ∷ ts)
+ended_by false false next s ts = stuck
+
+abbrev pub may_insert : Symbol → Bool
+may_insert s = s.newline || (is_close_brace s.kind || is_end s.kind)
+
+abbrev pub ended : (Symbols → State) → Symbols → State
+ended next [] = next []
+ended next (s ∷ ts) = ended_by (is_semicolon s.kind) (may_insert s) next s ts
+
+-- the same, where only a semicolon on the line is its end
+abbrev pub ended_at_once : (Symbols → State) → Symbols → State
+ended_at_once next [] = next []
+ended_at_once next (s ∷ ts) = ended_by (is_semicolon s.kind && not s.newline) (may_insert s) next s ts
 
 abbrev pub operator_of : TokenKind → Option Operator
 operator_of (k.Mark m.Or) = Some LogicalOr
@@ -144,7 +166,7 @@ comma_by (k.Mark m.Comma) i x next s ts = assign i (λ y r. comma_tail i (Tree.C
 comma_by _ i x next s ts = next x (s ∷ ts)
 
 abbrev pub assign_to : Option BinaryOp → Bool → Expr → To Expr → Symbols → State
-assign_to op i x next ts = assign i (λ y r. next (Tree.Assign op x y) r) ts
+assign_to op i x next ts = guard (is_target x) (assign i (λ y r. next (Tree.Assign op x y) r) ts)
 
 abbrev pub choice_by : TokenKind → Bool → Expr → To Expr → Symbol → Symbols → State
 choice_by (k.Mark m.Question) i x next s ts = assign true (λ y. expect is_colon (assign i (λ z r. next (Tree.Cond x y z) r))) ts
@@ -169,11 +191,11 @@ tail_by (Some op) i least x next s ts =
 
 abbrev pub unary_by : Option PrefixOp → To Expr → Symbol → Symbols → State
 unary_by None next s ts = operand true (λ x r. postfix x next r) (s ∷ ts)
-unary_by (Some op) next s ts = unary (λ x r. next (Tree.Prefix op x) r) ts
+unary_by (Some op) next s ts = unary (λ x r. guard (not (changes op) || is_target x) (next (Tree.Prefix op x) r)) ts
 
 abbrev pub postfix_by : TokenKind → Bool → Expr → To Expr → Symbol → Symbols → State
-postfix_by (k.Mark m.PlusPlus) false x next s ts = next (Tree.Postfix x q.Increment) ts
-postfix_by (k.Mark m.MinusMinus) false x next s ts = next (Tree.Postfix x q.Decrement) ts
+postfix_by (k.Mark m.PlusPlus) false x next s ts = guard (is_target x) (next (Tree.Postfix x q.Increment) ts)
+postfix_by (k.Mark m.MinusMinus) false x next s ts = guard (is_target x) (next (Tree.Postfix x q.Decrement) ts)
 postfix_by _ _ x next s ts = next x (s ∷ ts)
 
 abbrev pub new_by : TokenKind → Bool → Expr → To Expr → Symbol → Symbols → State
@@ -190,7 +212,7 @@ is_get _ = false
 
 abbrev pub late_by : TokenKind → Bool → Bool → To Expr → Symbols → State
 late_by (k.Number n) in_decimal c next ts =
-    if in_decimal && is_function_number n then expect is_close_parenthesis (expect is_close_parenthesis (links c (Tree.Late n) next)) ts else stuck
+    guard (in_decimal && is_function_number n) (expect is_close_parenthesis (expect is_close_parenthesis (links c (Tree.Late n) next)) ts)
 late_by _ in_decimal c next ts = stuck
 
 abbrev pub late_number : Bool → To Expr → Symbols → State
@@ -208,15 +230,15 @@ late_in Written c next ts = late c next ts
 
 abbrev pub name_by : Bool → Form → Name → Bool → To Expr → Symbols → State
 name_by true form n c next ts = late_in form c next ts
-name_by false form n c next ts = if is_reference form n then links c (Tree.Ident n) next ts else stuck
+name_by false form n c next ts = guard (is_reference form n) (links c (Tree.Ident n) next ts)
 
-abbrev pub function_by : TokenKind → Bool → To Expr → Symbol → Symbols → State
-function_by (k.Name n) c next s ts = rest (λ ns body r. links c (Tree.Function (code (Some n) ns body)) next r) ts
-function_by _ c next s ts = rest (λ ns body r. links c (Tree.Function (code None ns body)) next r) (s ∷ ts)
+abbrev pub function_by : Form → TokenKind → Bool → To Expr → Symbol → Symbols → State
+function_by form (k.Name n) c next s ts = guard (is_binding form n) (rest (λ ns body r. links c (Tree.Function (code (Some n) ns body)) next r) ts)
+function_by form _ c next s ts = rest (λ ns body r. links c (Tree.Function (code None ns body)) next r) (s ∷ ts)
 
-abbrev pub function : Bool → To Expr → Symbols → State
-function c next [] = stuck
-function c next (s ∷ ts) = function_by s.kind c next s ts
+abbrev pub function : Form → Bool → To Expr → Symbols → State
+function form c next [] = stuck
+function form c next (s ∷ ts) = function_by form s.kind c next s ts
 
 abbrev pub operand_by : Form → TokenKind → Bool → To Expr → Symbols → State
 operand_by form (k.Word w.New) c next ts = operand false (λ x r. after_new c x next r) ts
@@ -224,7 +246,7 @@ operand_by form (k.Word w.This) c next ts = links c Tree.This next ts
 operand_by form (k.Word w.Null) c next ts = links c Tree.Null next ts
 operand_by form (k.Word w.True) c next ts = links c (Tree.Truth true) next ts
 operand_by form (k.Word w.False) c next ts = links c (Tree.Truth false) next ts
-operand_by form (k.Word w.Function) c next ts = function c next ts
+operand_by form (k.Word w.Function) c next ts = function form c next ts
 operand_by form (k.Name n) c next ts = name_by (is_eval n) form n c next ts
 operand_by form (k.Number n) c next ts = links c (Tree.Num n) next ts
 operand_by form (k.Str text) c next ts = links c (Tree.Str text) next ts
@@ -234,7 +256,7 @@ operand_by form (k.Mark m.OpenParenthesis) c next ts = comma true (λ x. expect 
 operand_by form _ c next ts = stuck
 
 abbrev pub dot_by : Form → TokenKind → Bool → Expr → To Expr → Symbols → State
-dot_by form (k.Name n) c x next ts = if is_property form n then links c (Tree.Dot x n) next ts else stuck
+dot_by form (k.Name n) c x next ts = guard (is_property form n) (links c (Tree.Dot x n) next ts)
 dot_by form _ c x next ts = stuck
 
 abbrev pub dot : Form → Bool → Expr → To Expr → Symbols → State
@@ -286,17 +308,28 @@ pairs_by (Some key) next s ts = expect is_colon (assign true (λ x r. after_pair
 
 -- ---- functions and declarators
 
-abbrev pub formal_by : TokenKind → Name → To (List Name) → Symbol → Symbols → State
-formal_by (k.Mark m.Comma) n next s ts = formals (λ ns r. next (n ∷ ns) r) ts
-formal_by _ n next s ts = next (n ∷ []) (s ∷ ts)
+-- the formals before, with one more
+abbrev pub and_formal : List Name → Name → List Name
+and_formal before n = before ++ (n ∷ [])
 
-abbrev pub after_formal : Name → To (List Name) → Symbols → State
-after_formal n next [] = stuck
-after_formal n next (s ∷ ts) = formal_by s.kind n next s ts
+abbrev pub formal_by : TokenKind → List Name → Name → To (List Name) → Symbol → Symbols → State
+formal_by (k.Mark m.Comma) before n next s ts = formal (and_formal before n) (λ ns r. next (n ∷ ns) r) ts
+formal_by _ before n next s ts = next (n ∷ []) (s ∷ ts)
 
-abbrev pub formals_by : TokenKind → To (List Name) → Symbol → Symbols → State
-formals_by (k.Name n) next s ts = after_formal n next ts
-formals_by _ next s ts = next [] (s ∷ ts)
+abbrev pub after_formal : List Name → Name → To (List Name) → Symbols → State
+after_formal before n next [] = stuck
+after_formal before n next (s ∷ ts) = formal_by s.kind before n next s ts
+
+abbrev pub is_formal : Form → List Name → Name → Bool
+is_formal form before n = is_binding form n && is_distinct (and_formal before n)
+
+abbrev pub formals_by : Form → TokenKind → List Name → To (List Name) → Symbol → Symbols → State
+formals_by form (k.Name n) before next s ts = guard (is_formal form before n) (after_formal before n next ts)
+formals_by form _ before next s ts = next [] (s ∷ ts)
+
+abbrev pub one_formal_by : Form → TokenKind → List Name → To (List Name) → Symbols → State
+one_formal_by form (k.Name n) before next ts = guard (is_formal form before n) (after_formal before n next ts)
+one_formal_by form _ before next ts = stuck
 
 abbrev pub initialiser_by : TokenKind → Bool → Name → (Name → MaybeExpr → Symbols → State) → Symbol → Symbols → State
 initialiser_by (k.Mark m.Assign) i n next s ts = assign i (λ x r. next n (Tree.AnExpr x) r) ts
@@ -307,7 +340,7 @@ initialiser i n next [] = next n Tree.NoExpr []
 initialiser i n next (s ∷ ts) = initialiser_by s.kind i n next s ts
 
 abbrev pub declarator_by : Form → TokenKind → Bool → (Name → MaybeExpr → Symbols → State) → Symbols → State
-declarator_by form (k.Name n) i next ts = if is_binding form n then initialiser i n next ts else stuck
+declarator_by form (k.Name n) i next ts = guard (is_binding form n) (initialiser i n next ts)
 declarator_by form _ i next ts = stuck
 
 abbrev pub declarators_by : TokenKind → Bool → Name → MaybeExpr → To VarItems → Symbol → Symbols → State
@@ -326,143 +359,175 @@ optional_by _ next s ts = comma true (λ x r. next (Tree.AnExpr x) r) (s ∷ ts)
 -- ---- statements
 
 abbrev pub stated : To Stmt → Symbols → State
-stated next ts = comma true (λ x r. next (Tree.Do x) (ended r)) ts
+stated next ts = comma true (λ x r. ended (next (Tree.Do x)) r) ts
 
-abbrev pub if_by : TokenKind → Expr → Stmt → To Stmt → Symbol → Symbols → State
-if_by (k.Word w.Else) x body next s ts = statement (λ other r. next (Tree.If x body (Tree.AStmt other)) r) ts
-if_by _ x body next s ts = next (Tree.If x body Tree.NoStmt) (s ∷ ts)
+-- a statement in braces, in a context
+abbrev pub block : Context → To Stmt → Symbols → State
+block c next ts = expect is_open_brace (list (context.part c) (λ ss. expect is_close_brace (next (Tree.Block ss)))) ts
 
-abbrev pub after_if : Expr → Stmt → To Stmt → Symbols → State
-after_if x body next [] = next (Tree.If x body Tree.NoStmt) []
-after_if x body next (s ∷ ts) = if_by s.kind x body next s ts
+-- the names are some
+abbrev pub are_some : List Name → Bool
+are_some [] = false
+are_some (n ∷ ns) = true
 
-abbrev pub for_rest : ForInit → To Stmt → Symbols → State
-for_rest init next ts =
-    expect is_semicolon (optional (λ test. expect is_semicolon (optional (λ step. expect is_close_parenthesis (statement (λ body r. next (Tree.For init test step body) r)))))) ts
+abbrev pub if_by : Context → TokenKind → Expr → Stmt → To Stmt → Symbol → Symbols → State
+if_by c (k.Word w.Else) x body next s ts = statement (context.part c) (λ other r. next (Tree.If x body (Tree.AStmt other)) r) ts
+if_by c _ x body next s ts = next (Tree.If x body Tree.NoStmt) (s ∷ ts)
 
-abbrev pub for_var_by : TokenKind → Name → MaybeExpr → To Stmt → Symbol → Symbols → State
-for_var_by (k.Word w.In) n value next s ts = comma true (λ y. expect is_close_parenthesis (statement (λ body r. next (Tree.ForIn (Tree.AVar n value) y body) r))) ts
-for_var_by (k.Mark m.Comma) n value next s ts = declarators false (λ items r. for_rest (Tree.Vars (Tree.MoreVarItems n value items)) next r) ts
-for_var_by _ n value next s ts = for_rest (Tree.Vars (Tree.MoreVarItems n value Tree.NoVarItems)) next (s ∷ ts)
+abbrev pub after_if : Context → Expr → Stmt → To Stmt → Symbols → State
+after_if c x body next [] = next (Tree.If x body Tree.NoStmt) []
+after_if c x body next (s ∷ ts) = if_by c s.kind x body next s ts
 
-abbrev pub for_var : Name → MaybeExpr → To Stmt → Symbols → State
-for_var n value next [] = stuck
-for_var n value next (s ∷ ts) = for_var_by s.kind n value next s ts
+-- the rest of a `for` header, and a body in a context
+abbrev pub for_rest : Context → ForInit → To Stmt → Symbols → State
+for_rest c init next ts =
+    expect is_semicolon (optional (λ test. expect is_semicolon (optional (λ step. expect is_close_parenthesis (statement c (λ body r. next (Tree.For init test step body) r)))))) ts
 
-abbrev pub for_expression_by : TokenKind → Expr → To Stmt → Symbol → Symbols → State
-for_expression_by (k.Word w.In) x next s ts = comma true (λ y. expect is_close_parenthesis (statement (λ body r. next (Tree.ForIn (Tree.Target x) y body) r))) ts
-for_expression_by _ x next s ts = for_rest (Tree.First x) next (s ∷ ts)
+abbrev pub for_var_by : Context → TokenKind → Name → MaybeExpr → To Stmt → Symbol → Symbols → State
+for_var_by c (k.Word w.In) n value next s ts = comma true (λ y. expect is_close_parenthesis (statement c (λ body r. next (Tree.ForIn (Tree.AVar n value) y body) r))) ts
+for_var_by c (k.Mark m.Comma) n value next s ts = declarators false (λ items r. for_rest c (Tree.Vars (Tree.MoreVarItems n value items)) next r) ts
+for_var_by c _ n value next s ts = for_rest c (Tree.Vars (Tree.MoreVarItems n value Tree.NoVarItems)) next (s ∷ ts)
 
-abbrev pub for_expression : Expr → To Stmt → Symbols → State
-for_expression x next [] = stuck
-for_expression x next (s ∷ ts) = for_expression_by s.kind x next s ts
+abbrev pub for_var : Context → Name → MaybeExpr → To Stmt → Symbols → State
+for_var c n value next [] = stuck
+for_var c n value next (s ∷ ts) = for_var_by c s.kind n value next s ts
 
-abbrev pub for_by : TokenKind → To Stmt → Symbol → Symbols → State
-for_by (k.Word w.Var) next s ts = declarator false (λ n value r. for_var n value next r) ts
-for_by (k.Mark m.Semicolon) next s ts = for_rest Tree.Nothing next (s ∷ ts)
-for_by _ next s ts = comma false (λ x r. for_expression x next r) (s ∷ ts)
+abbrev pub for_expression_by : Context → TokenKind → Expr → To Stmt → Symbol → Symbols → State
+for_expression_by c (k.Word w.In) x next s ts =
+    guard (is_target x) (comma true (λ y. expect is_close_parenthesis (statement c (λ body r. next (Tree.ForIn (Tree.Target x) y body) r))) ts)
+for_expression_by c _ x next s ts = for_rest c (Tree.First x) next (s ∷ ts)
 
-abbrev pub for_header : To Stmt → Symbols → State
-for_header next [] = stuck
-for_header next (s ∷ ts) = for_by s.kind next s ts
+abbrev pub for_expression : Context → Expr → To Stmt → Symbols → State
+for_expression c x next [] = stuck
+for_expression c x next (s ∷ ts) = for_expression_by c s.kind x next s ts
 
-abbrev pub jump_by : TokenKind → Bool → (Option Name → Stmt) → To Stmt → Symbol → Symbols → State
-jump_by (k.Name n) false made next s ts = next (made (Some n)) (ended ts)
-jump_by _ _ made next s ts = next (made None) (ended_at_once (s ∷ ts))
+abbrev pub for_by : Context → TokenKind → To Stmt → Symbol → Symbols → State
+for_by c (k.Word w.Var) next s ts = declarator false (λ n value r. for_var c n value next r) ts
+for_by c (k.Mark m.Semicolon) next s ts = for_rest c Tree.Nothing next (s ∷ ts)
+for_by c _ next s ts = comma false (λ x r. for_expression c x next r) (s ∷ ts)
 
-abbrev pub jump : (Option Name → Stmt) → To Stmt → Symbols → State
-jump made next [] = next (made None) []
-jump made next (s ∷ ts) = jump_by s.kind s.newline made next s ts
+abbrev pub for_header : Context → To Stmt → Symbols → State
+for_header c next [] = stuck
+for_header c next (s ∷ ts) = for_by c s.kind next s ts
+
+-- a `continue` or `break`, which may stand without a label, and with these
+abbrev pub jump_by : Form → TokenKind → Bool → Bool → List Name → (Option Name → Stmt) → To Stmt → Symbol → Symbols → State
+jump_by form (k.Name n) false may names made next s ts = guard (is_reference form n && is_among n names) (ended (next (made (Some n))) ts)
+jump_by form _ _ may names made next s ts = guard may (ended_at_once (next (made None)) (s ∷ ts))
+
+abbrev pub jump : Form → Bool → List Name → (Option Name → Stmt) → To Stmt → Symbols → State
+jump form may names made next [] = guard may (next (made None) [])
+jump form may names made next (s ∷ ts) = jump_by form s.kind s.newline may names made next s ts
 
 abbrev pub return_by : Bool → TokenKind → To Stmt → Symbol → Symbols → State
 return_by true kind next s ts = next (Tree.Return Tree.NoExpr) (s ∷ ts)
 return_by false (k.Mark m.Semicolon) next s ts = next (Tree.Return Tree.NoExpr) ts
 return_by false (k.Mark m.CloseBrace) next s ts = next (Tree.Return Tree.NoExpr) (s ∷ ts)
 return_by false k.End next s ts = next (Tree.Return Tree.NoExpr) (s ∷ ts)
-return_by false _ next s ts = comma true (λ x r. next (Tree.Return (Tree.AnExpr x)) (ended r)) (s ∷ ts)
+return_by false _ next s ts = comma true (λ x r. ended (next (Tree.Return (Tree.AnExpr x))) r) (s ∷ ts)
 
 abbrev pub returned : To Stmt → Symbols → State
 returned next [] = next (Tree.Return Tree.NoExpr) []
 returned next (s ∷ ts) = return_by s.newline s.kind next s ts
 
-abbrev pub finally_by : TokenKind → Stmt → Handler → To Stmt → Symbol → Symbols → State
-finally_by (k.Word w.Finally) block handler next s ts = statement (λ last r. next (Tree.Try block handler (Tree.AStmt last)) r) ts
-finally_by _ block handler next s ts = next (Tree.Try block handler Tree.NoStmt) (s ∷ ts)
+abbrev pub thrown : To Stmt → Symbols → State
+thrown next [] = stuck
+thrown next (s ∷ ts) = guard (not s.newline) (comma true (λ x r. ended (next (Tree.Throw x)) r) (s ∷ ts))
 
-abbrev pub after_catch : Stmt → Handler → To Stmt → Symbols → State
-after_catch block handler next [] = next (Tree.Try block handler Tree.NoStmt) []
-after_catch block handler next (s ∷ ts) = finally_by s.kind block handler next s ts
+abbrev pub finally_by : Context → TokenKind → Stmt → Handler → To Stmt → Symbol → Symbols → State
+finally_by c (k.Word w.Finally) tried handler next s ts = block c (λ last r. next (Tree.Try tried handler (Tree.AStmt last)) r) ts
+finally_by c _ tried handler next s ts = next (Tree.Try tried handler Tree.NoStmt) (s ∷ ts)
 
-abbrev pub catch_by : TokenKind → Stmt → To Stmt → Symbols → State
-catch_by (k.Name n) block next ts = expect is_close_parenthesis (statement (λ handler r. after_catch block (Tree.ACatch n handler) next r)) ts
-catch_by _ block next ts = stuck
+abbrev pub after_catch : Context → Stmt → Handler → To Stmt → Symbols → State
+after_catch c tried handler next [] = next (Tree.Try tried handler Tree.NoStmt) []
+after_catch c tried handler next (s ∷ ts) = finally_by c s.kind tried handler next s ts
 
-abbrev pub catch_name : Stmt → To Stmt → Symbols → State
-catch_name block next [] = stuck
-catch_name block next (s ∷ ts) = catch_by s.kind block next ts
+abbrev pub catch_by : Form → Context → TokenKind → Stmt → To Stmt → Symbols → State
+catch_by form c (k.Name n) tried next ts =
+    guard (is_binding form n) (expect is_close_parenthesis (block c (λ handler r. after_catch c tried (Tree.ACatch n handler) next r)) ts)
+catch_by form c _ tried next ts = stuck
 
-abbrev pub try_by : TokenKind → Stmt → To Stmt → Symbols → State
-try_by (k.Word w.Catch) block next ts = expect is_open_parenthesis (catch_name block next) ts
-try_by (k.Word w.Finally) block next ts = statement (λ last r. next (Tree.Try block Tree.NoHandler (Tree.AStmt last)) r) ts
-try_by _ block next ts = stuck
+abbrev pub catch_name : Form → Context → Stmt → To Stmt → Symbols → State
+catch_name form c tried next [] = stuck
+catch_name form c tried next (s ∷ ts) = catch_by form c s.kind tried next ts
 
-abbrev pub after_try : Stmt → To Stmt → Symbols → State
-after_try block next [] = stuck
-after_try block next (s ∷ ts) = try_by s.kind block next ts
+abbrev pub try_by : Form → Context → TokenKind → Stmt → To Stmt → Symbols → State
+try_by form c (k.Word w.Catch) tried next ts = expect is_open_parenthesis (catch_name form c tried next) ts
+try_by form c (k.Word w.Finally) tried next ts = block c (λ last r. next (Tree.Try tried Tree.NoHandler (Tree.AStmt last)) r) ts
+try_by form c _ tried next ts = stuck
 
-abbrev pub label_by : TokenKind → Name → To Stmt → Symbol → Symbol → Symbols → State
-label_by (k.Mark m.Colon) n next s t ts = statement (λ body r. next (Tree.Label n body) r) ts
-label_by _ n next s t ts = stated next (s ∷ t ∷ ts)
+abbrev pub after_try : Form → Context → Stmt → To Stmt → Symbols → State
+after_try form c tried next [] = stuck
+after_try form c tried next (s ∷ ts) = try_by form c s.kind tried next ts
 
-abbrev pub label : Name → To Stmt → Symbol → Symbols → State
-label n next s [] = stated next (s ∷ [])
-label n next s (t ∷ ts) = label_by t.kind n next s t ts
+abbrev pub label_by : Form → Context → TokenKind → Name → To Stmt → Symbol → Symbol → Symbols → State
+label_by form c (k.Mark m.Colon) n next s t ts =
+    guard (is_reference form n && not (is_among n c.labels)) (statement (context.labelled n c) (λ body r. next (Tree.Label n body) r) ts)
+label_by form c _ n next s t ts = stated next (s ∷ t ∷ ts)
 
-abbrev pub statement_by : TokenKind → To Stmt → Symbol → Symbols → State
-statement_by (k.Mark m.OpenBrace) next s ts = list (λ ss. expect is_close_brace (next (Tree.Block ss))) ts
-statement_by (k.Word w.Var) next s ts = declarators true (λ items r. next (Tree.Variables items) (ended r)) ts
-statement_by (k.Mark m.Semicolon) next s ts = next Tree.Empty ts
-statement_by (k.Word w.If) next s ts = expect is_open_parenthesis (comma true (λ x. expect is_close_parenthesis (statement (λ body r. after_if x body next r)))) ts
-statement_by (k.Word w.Do) next s ts =
-    statement (λ body. expect is_while (expect is_open_parenthesis (comma true (λ x. expect is_close_parenthesis (λ r. next (Tree.DoWhile body x) (ended r)))))) ts
-statement_by (k.Word w.While) next s ts = expect is_open_parenthesis (comma true (λ x. expect is_close_parenthesis (statement (λ body r. next (Tree.While x body) r)))) ts
-statement_by (k.Word w.For) next s ts = expect is_open_parenthesis (for_header next) ts
-statement_by (k.Word w.Continue) next s ts = jump Tree.Continue next ts
-statement_by (k.Word w.Break) next s ts = jump Tree.Break next ts
-statement_by (k.Word w.Return) next s ts = returned next ts
-statement_by (k.Word w.Switch) next s ts =
-    expect is_open_parenthesis (comma true (λ x. expect is_close_parenthesis (expect is_open_brace (clauses (λ cs. expect is_close_brace (next (Tree.Switch x cs))))))) ts
-statement_by (k.Word w.Throw) next s ts = comma true (λ x r. next (Tree.Throw x) (ended r)) ts
-statement_by (k.Word w.Try) next s ts = statement (λ block r. after_try block next r) ts
-statement_by (k.Word w.Function) next s ts = stuck
-statement_by (k.Name n) next s ts = label n next s ts
-statement_by _ next s ts = stated next (s ∷ ts)
+abbrev pub label : Form → Context → Name → To Stmt → Symbol → Symbols → State
+label form c n next s [] = stated next (s ∷ [])
+label form c n next s (t ∷ ts) = label_by form c t.kind n next s t ts
 
-abbrev pub list_by : TokenKind → To Stmts → Symbol → Symbols → State
-list_by (k.Mark m.CloseBrace) next s ts = next Tree.NoStmts (s ∷ ts)
-list_by k.End next s ts = next Tree.NoStmts (s ∷ ts)
-list_by (k.Word w.Case) next s ts = next Tree.NoStmts (s ∷ ts)
-list_by (k.Word w.Default) next s ts = next Tree.NoStmts (s ∷ ts)
-list_by _ next s ts = statement (λ x r. list (λ xs o. next (Tree.MoreStmts x xs) o) r) (s ∷ ts)
+abbrev pub statement_by : Form → Context → TokenKind → To Stmt → Symbol → Symbols → State
+statement_by form c (k.Mark m.OpenBrace) next s ts = list (context.part c) (λ ss. expect is_close_brace (next (Tree.Block ss))) ts
+statement_by form c (k.Word w.Var) next s ts = declarators true (λ items r. ended (next (Tree.Variables items)) r) ts
+statement_by form c (k.Mark m.Semicolon) next s ts = next Tree.Empty ts
+statement_by form c (k.Word w.If) next s ts =
+    expect is_open_parenthesis (comma true (λ x. expect is_close_parenthesis (statement (context.part c) (λ body r. after_if c x body next r)))) ts
+statement_by form c (k.Word w.Do) next s ts =
+    statement (context.loop c) (λ body. expect is_while (expect is_open_parenthesis (comma true (λ x. expect is_close_parenthesis (ended (next (Tree.DoWhile body x))))))) ts
+statement_by form c (k.Word w.While) next s ts =
+    expect is_open_parenthesis (comma true (λ x. expect is_close_parenthesis (statement (context.loop c) (λ body r. next (Tree.While x body) r)))) ts
+statement_by form c (k.Word w.For) next s ts = expect is_open_parenthesis (for_header (context.loop c) next) ts
+statement_by form c (k.Word w.Continue) next s ts = guard (c.in_loop || are_some c.loops) (jump form c.in_loop c.loops Tree.Continue next ts)
+statement_by form c (k.Word w.Break) next s ts = guard (context.may_break c || are_some c.labels) (jump form (context.may_break c) c.labels Tree.Break next ts)
+statement_by form c (k.Word w.Return) next s ts = guard c.in_function (returned next ts)
+statement_by form c (k.Word w.Switch) next s ts =
+    expect is_open_parenthesis
+    (comma true (λ x. expect is_close_parenthesis (expect is_open_brace (clauses (context.clause c) true (λ cs. expect is_close_brace (next (Tree.Switch x cs))))))) ts
+statement_by form c (k.Word w.Throw) next s ts = thrown next ts
+statement_by form c (k.Word w.Try) next s ts = block (context.part c) (λ tried r. after_try form (context.part c) tried next r) ts
+statement_by form c (k.Word w.Function) next s ts = stuck
+statement_by form c (k.Name n) next s ts = label form c n next s ts
+statement_by form c _ next s ts = stated next (s ∷ ts)
 
-abbrev pub declared_by : TokenKind → To Stmts → Symbols → State
-declared_by (k.Name n) next ts = rest (λ ns body r. source (λ xs o. next (Tree.MoreStmts (Tree.Declare (code (Some n) ns body)) xs) o) r) ts
-declared_by _ next ts = stuck
+abbrev pub list_by : Context → TokenKind → To Stmts → Symbol → Symbols → State
+list_by c (k.Mark m.CloseBrace) next s ts = next Tree.NoStmts (s ∷ ts)
+list_by c k.End next s ts = next Tree.NoStmts (s ∷ ts)
+list_by c (k.Word w.Case) next s ts = next Tree.NoStmts (s ∷ ts)
+list_by c (k.Word w.Default) next s ts = next Tree.NoStmts (s ∷ ts)
+list_by c _ next s ts = statement c (λ x r. list c (λ xs o. next (Tree.MoreStmts x xs) o) r) (s ∷ ts)
 
-abbrev pub declared : To Stmts → Symbols → State
-declared next [] = stuck
-declared next (s ∷ ts) = declared_by s.kind next ts
+abbrev pub declared_by : Form → Context → TokenKind → To Stmts → Symbols → State
+declared_by form c (k.Name n) next ts =
+    guard (is_binding form n) (rest (λ ns body r. source c (λ xs o. next (Tree.MoreStmts (Tree.Declare (code (Some n) ns body)) xs) o) r) ts)
+declared_by form c _ next ts = stuck
 
-abbrev pub source_by : TokenKind → To Stmts → Symbol → Symbols → State
-source_by (k.Mark m.CloseBrace) next s ts = next Tree.NoStmts (s ∷ ts)
-source_by k.End next s ts = next Tree.NoStmts (s ∷ ts)
-source_by (k.Word w.Function) next s ts = declared next ts
-source_by _ next s ts = statement (λ x r. source (λ xs o. next (Tree.MoreStmts x xs) o) r) (s ∷ ts)
+abbrev pub declared : Form → Context → To Stmts → Symbols → State
+declared form c next [] = stuck
+declared form c next (s ∷ ts) = declared_by form c s.kind next ts
 
-abbrev pub clauses_by : TokenKind → To Cases → Symbol → Symbols → State
-clauses_by (k.Word w.Case) next s ts = comma true (λ x. expect is_colon (list (λ ss r. clauses (λ cs o. next (Tree.MoreCases (Tree.AnExpr x) ss cs) o) r))) ts
-clauses_by (k.Word w.Default) next s ts = expect is_colon (list (λ ss r. clauses (λ cs o. next (Tree.MoreCases Tree.NoExpr ss cs) o) r)) ts
-clauses_by _ next s ts = next Tree.NoCases (s ∷ ts)
+abbrev pub source_by : Form → Context → TokenKind → To Stmts → Symbol → Symbols → State
+source_by form c (k.Mark m.CloseBrace) next s ts = next Tree.NoStmts (s ∷ ts)
+source_by form c k.End next s ts = next Tree.NoStmts (s ∷ ts)
+source_by form c (k.Word w.Function) next s ts = declared form c next ts
+source_by form c _ next s ts = statement c (λ x r. source c (λ xs o. next (Tree.MoreStmts x xs) o) r) (s ∷ ts)
+
+abbrev pub clauses_by : Context → Bool → TokenKind → To Cases → Symbol → Symbols → State
+clauses_by c may (k.Word w.Case) next s ts =
+    comma true (λ x. expect is_colon (list c (λ ss r. clauses c may (λ cs o. next (Tree.MoreCases (Tree.AnExpr x) ss cs) o) r))) ts
+clauses_by c may (k.Word w.Default) next s ts =
+    guard may (expect is_colon (list c (λ ss r. clauses c false (λ cs o. next (Tree.MoreCases Tree.NoExpr ss cs) o) r)) ts)
+clauses_by c may _ next s ts = next Tree.NoCases (s ∷ ts)
+
+-- a whole script, which the end closes
+abbrev pub finished : To Stmts
+finished ss [] = stuck
+finished ss (s ∷ ts) = guard (is_end s.kind) (done ss ts)
+
+abbrev pub script : Symbols → State
+script ts = source context.script finished ts
 
 -- ---- a step
 
@@ -494,22 +559,24 @@ step form (elements next (s ∷ ts)) = elements_by s.kind next s ts
 step form (pairs next []) = stuck
 step form (pairs next (s ∷ ts)) = pairs_by (key_of form s.kind) next s ts
 step form (rest next ts) =
-    expect is_open_parenthesis (formals (λ ns. expect is_close_parenthesis (expect is_open_brace (source (λ body. expect is_close_brace (next ns body)))))) ts
-step form (formals next []) = stuck
-step form (formals next (s ∷ ts)) = formals_by s.kind next s ts
+    expect is_open_parenthesis (formals [] (λ ns. expect is_close_parenthesis (expect is_open_brace (source context.function (λ body. expect is_close_brace (next ns body)))))) ts
+step form (formals before next []) = stuck
+step form (formals before next (s ∷ ts)) = formals_by form s.kind before next s ts
+step form (formal before next []) = stuck
+step form (formal before next (s ∷ ts)) = one_formal_by form s.kind before next ts
 step form (declarator i next []) = stuck
 step form (declarator i next (s ∷ ts)) = declarator_by form s.kind i next ts
 step form (declarators i next ts) = declarator i (λ n value r. after_declarator i n value next r) ts
 step form (optional next []) = stuck
 step form (optional next (s ∷ ts)) = optional_by s.kind next s ts
-step form (statement next []) = stuck
-step form (statement next (s ∷ ts)) = statement_by s.kind next s ts
-step form (list next []) = next Tree.NoStmts []
-step form (list next (s ∷ ts)) = list_by s.kind next s ts
-step form (source next []) = next Tree.NoStmts []
-step form (source next (s ∷ ts)) = source_by s.kind next s ts
-step form (clauses next []) = next Tree.NoCases []
-step form (clauses next (s ∷ ts)) = clauses_by s.kind next s ts
+step form (statement c next []) = stuck
+step form (statement c next (s ∷ ts)) = statement_by form c s.kind next s ts
+step form (list c next []) = next Tree.NoStmts []
+step form (list c next (s ∷ ts)) = list_by c s.kind next s ts
+step form (source c next []) = next Tree.NoStmts []
+step form (source c next (s ∷ ts)) = source_by form c s.kind next s ts
+step form (clauses c may next []) = next Tree.NoCases []
+step form (clauses c may next (s ∷ ts)) = clauses_by c may s.kind next s ts
 
 -- ---- runs
 
@@ -525,6 +592,10 @@ onwards (then_on d) h = then_on (onwards d h)
 -- a step that computes to another state
 pub stepped : {form : Form} {s t o : State} → step form s ≡ t → Goes form t o → Goes form s o
 stepped {form = form} {o = o} e d = then_on (subst (λ t. Goes form t o) (sym e) d)
+
+-- where a condition holds
+pub allowed : {form : Form} {a : Bool} {s t : State} → a ≡ true → Goes form s t → Goes form (guard a s) t
+allowed {form = form} {s = s} {t = t} h d = subst (λ a. Goes form (guard a s) t) (sym h) d
 
 stays : {form : Form} {s t o : State} → s ≡ t → step form t ≡ t → Goes form s o → t ≡ o
 stays e f here = sym e

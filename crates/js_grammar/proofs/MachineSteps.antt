@@ -1,5 +1,7 @@
 -- What the machine does where expressions, declarators and statements begin and end.
 use Rattle.std.proofs.Common.{if◌then◌else◌, ◌≡◌, ◌≢◌, ℕ, ◌<◌, Bool, true, false, not, ◌&&◌, ◌||◌, List, [], ◌∷◌, ◌++◌, Option, None, refl, ap, sym, ◌∙◌, subst, arith, lit<}
+use Rattle.std.proofs.lemmas.List.{append_assoc}
+use Rattle.js_lexer.specs.Words.{is_spelled}
 use Rattle.js_lexer.specs.declared.mark.Mark.{Mark}
 use Rattle.js_lexer.specs.declared.mark.Mark.TheVariants as m
 use Rattle.js_lexer.specs.declared.word.Word.TheVariants as w
@@ -11,8 +13,8 @@ use Rattle.js_tree.specs.Tree.{Name, Expr, Exprs, MaybeExpr, Elements, Pairs, St
 use Rattle.js_tree.specs.Tree
 use Rattle.js_grammar.specs.declared.form.Form.{Form}
 use Rattle.js_grammar.specs.Symbols.{Symbol, Symbols, word, mark, first}
-use Rattle.js_grammar.specs.Operators.{postfix_sign}
-use Rattle.js_grammar.specs.Names.{is_eval, is_function_name, is_infinity, may_stand, is_reference}
+use Rattle.js_grammar.specs.Operators.{postfix_sign, is_target}
+use Rattle.js_grammar.specs.Names.{is_eval, is_function_name, is_infinity, may_stand, is_reference, is_binding, is_among, is_distinct}
 use Rattle.js_grammar.specs.Contexts.{Context}
 use Rattle.js_grammar.specs.Ends.{Ends, EndsAtOnce, ends_changed, kind_reach, reach, bare_reach, list_reach, declarator_reach}
 use Rattle.js_grammar.specs.Ends as e
@@ -21,8 +23,8 @@ use Rattle.js_grammar.specs.Grammar as g
 use Rattle.js_grammar.proofs.Levels.{is_empty, more}
 use Rattle.js_grammar.proofs.EndTokens.{Starts, one, begins, begins_operand, operand-starts, callee-starts, expression-starts, argument-starts, operand-end, callee-end, last-of, ends-any, colon_first, no_label, expression-no-label}
 use Rattle.js_grammar.proofs.EndTokens as start
-use Rattle.js_grammar.proofs.Machine.{State, done, stuck, comma, comma_tail, assign, choice, climb, tail, unary, postfix, operand, links, arguments, argument_list, elements, pairs, rest, formals, declarator, declarators, optional, statement, list, source, clauses, To, step, Goes, here, then_on, onwards, stepped}
-use Rattle.js_grammar.proofs.Machine.{one_end}
+use Rattle.js_grammar.proofs.Machine.{State, done, stuck, comma, comma_tail, assign, choice, climb, tail, unary, postfix, operand, links, arguments, argument_list, elements, pairs, rest, formals, formal, declarator, declarators, optional, statement, list, source, clauses, To, step, Goes, here, then_on, onwards, stepped}
+use Rattle.js_grammar.proofs.Machine.{allowed}
 use Rattle.js_grammar.proofs.Machine as mc
 use Rattle.js_grammar.proofs.MachineLevels.{front, kind_reach_in, reach_in, reach_of}
 
@@ -37,6 +39,34 @@ from {form = form} {o = o} e d = subst (λ s. Goes form s o) (sym e) d
 pub right : (a c : Bool) → (a && c) ≡ true → c ≡ true
 right true c h = h
 right false c h = absurd cc
+
+pub left : (a c : Bool) → (a && c) ≡ true → a ≡ true
+left true c h = refl
+left false c h = cc
+
+pub both : (a c : Bool) → a ≡ true → c ≡ true → (a && c) ≡ true
+both true c h i = i
+both false c h i = cc
+
+pub either : (a c : Bool) → c ≡ true → (a || c) ≡ true
+either true c h = refl
+either false c h = h
+
+left-false : (a c : Bool) → (a || c) ≡ false → a ≡ false
+left-false true c h = h
+left-false false c h = refl
+
+right-false : (a c : Bool) → (a || c) ≡ false → c ≡ false
+right-false true c h = cc
+right-false false c h = h
+
+or-false : (a c : Bool) → a ≡ false → c ≡ false → (a || c) ≡ false
+or-false true c h i = h
+or-false false c h i = i
+
+pub not-true : (a : Bool) → not a ≡ true → a ≡ false
+not-true true h = cc
+not-true false h = refl
 
 pub not-or : (a c : Bool) → not (a || c) ≡ true → a ≡ false
 not-or true c h = cc
@@ -82,9 +112,9 @@ post-reach q.Increment false = lit< tt
 post-reach q.Decrement true = lit< tt
 post-reach q.Decrement false = lit< tt
 
-pub post-step : (op : PostfixOp) (x : Expr) (next : To Expr) (s : Symbol) (ts : Symbols) → mc.postfix_by (postfix_sign op) false x next s ts ≡ next (Tree.Postfix x op) ts
-post-step q.Increment x next s ts = refl
-post-step q.Decrement x next s ts = refl
+pub post-step : (op : PostfixOp) (x : Expr) (next : To Expr) (s : Symbol) (ts : Symbols) → is_target x ≡ true → mc.postfix_by (postfix_sign op) false x next s ts ≡ next (Tree.Postfix x op) ts
+post-step q.Increment x next s ts h = ap (λ a. mc.guard a (next (Tree.Postfix x q.Increment) ts)) h
+post-step q.Decrement x next s ts h = ap (λ a. mc.guard a (next (Tree.Postfix x q.Decrement) ts)) h
 
 -- ---- arguments
 
@@ -104,14 +134,50 @@ links-paren (g.no_arguments a b) x next ts = refl
 links-paren (g.arguments a b xs) x next ts = refl
 
 pub function-step : {form : Form} {u : Symbols} {ns : List Name} {body : Stmts} → FunctionRest form u ns body → (c : Bool) (next : To Expr) (ts : Symbols)
-    → mc.function c next (u ++ ts) ≡ rest (λ ns body r. links c (Tree.Function (code None ns body)) next r) (u ++ ts)
+    → mc.function form c next (u ++ ts) ≡ rest (λ ns body r. links c (Tree.Function (code None ns body)) next r) (u ++ ts)
 function-step (g.function_rest a b d f fs h body) c next ts = refl
 
-pub formals-read : {form : Form} {u : Symbols} {ns : List Name} → Formals form u ns → (next : To (List Name)) (d : Bool) (ts : Symbols)
-    → Goes form (formals next (u ++ (mark m.CloseParenthesis d ∷ ts))) (next ns (mark m.CloseParenthesis d ∷ ts))
-formals-read g.no_formal next d ts = then_on here
-formals-read (g.last_formal a h) next d ts = then_on here
-formals-read (g.formal_and {n = n} a b h fs) next d ts = then_on (formals-read fs (λ ns r. next (n ∷ ns) r) d ts)
+-- ---- formals
+
+-- what stands before some names is distinct where all are
+among-front : (n : Name) (ns others : List Name) → is_among n (ns ++ others) ≡ false → is_among n ns ≡ false
+among-front n [] others h = refl
+among-front n (o ∷ ns) others h = or-false (is_spelled n o) (is_among n ns) (not-or-left h) (among-front n ns others (not-or-right h))
+  where
+    not-or-left : (is_spelled n o || is_among n (ns ++ others)) ≡ false → is_spelled n o ≡ false
+    not-or-left e = left-false (is_spelled n o) (is_among n (ns ++ others)) e
+    not-or-right : (is_spelled n o || is_among n (ns ++ others)) ≡ false → is_among n (ns ++ others) ≡ false
+    not-or-right e = right-false (is_spelled n o) (is_among n (ns ++ others)) e
+
+distinct-front : (ns others : List Name) → is_distinct (ns ++ others) ≡ true → is_distinct ns ≡ true
+distinct-front [] others h = refl
+distinct-front (n ∷ ns) others h =
+    both (not (is_among n ns)) (is_distinct ns)
+    (ap not (among-front n ns others (not-true (is_among n (ns ++ others)) (left (not (is_among n (ns ++ others))) (is_distinct (ns ++ others)) h))))
+    (distinct-front ns others (right (not (is_among n (ns ++ others))) (is_distinct (ns ++ others)) h))
+
+-- the next of some names that are distinct
+next-formal : (form : Form) (n : Name) (before ns : List Name) → is_binding form n ≡ true → is_distinct (before ++ (n ∷ ns)) ≡ true
+    → mc.is_formal form before n ≡ true
+next-formal form n before ns h d =
+    both (is_binding form n) (is_distinct (mc.and_formal before n)) h
+    (distinct-front (mc.and_formal before n) ns (ap is_distinct (append_assoc before (n ∷ []) ns) ∙ d))
+
+mutual
+  pub formals-read : {form : Form} {u : Symbols} {ns : List Name} → Formals form u ns → (before : List Name) → is_distinct (before ++ ns) ≡ true
+      → (next : To (List Name)) (d : Bool) (ts : Symbols) → Goes form (formals before next (u ++ (mark m.CloseParenthesis d ∷ ts))) (next ns (mark m.CloseParenthesis d ∷ ts))
+  formals-read g.no_formal before all next d ts = then_on here
+  formals-read (g.last_formal a h) before all next d ts = then_on (allowed (next-formal _ _ before [] h all) here)
+  formals-read (g.formal_and {n = n} {o = o} {ns = ns} a b h fs) before all next d ts =
+      then_on (allowed (next-formal _ _ before (o ∷ ns) h all)
+      (formal-read fs (mc.and_formal before n) (ap is_distinct (append_assoc before (n ∷ []) (o ∷ ns)) ∙ all) (λ ns r. next (n ∷ ns) r) d ts))
+
+  formal-read : {form : Form} {u : Symbols} {n : Name} {ns : List Name} → Formals form u (n ∷ ns) → (before : List Name) → is_distinct (before ++ (n ∷ ns)) ≡ true
+      → (next : To (List Name)) (d : Bool) (ts : Symbols) → Goes form (formal before next (u ++ (mark m.CloseParenthesis d ∷ ts))) (next (n ∷ ns) (mark m.CloseParenthesis d ∷ ts))
+  formal-read (g.last_formal a h) before all next d ts = then_on (allowed (next-formal _ _ before [] h all) here)
+  formal-read (g.formal_and {n = n} {o = o} {ns = ns} a b h fs) before all next d ts =
+      then_on (allowed (next-formal _ _ before (o ∷ ns) h all)
+      (formal-read fs (mc.and_formal before n) (ap is_distinct (append_assoc before (n ∷ []) (o ∷ ns)) ∙ all) (λ ns r. next (n ∷ ns) r) d ts))
 
 -- ---- declarators
 
@@ -201,20 +267,31 @@ declarator-list-tokens (g.declarator_and {u = u} c d ds) = more u _ _
 
 -- ---- ends
 
-pub ended-stop : (ts : Symbols) → mc.is_semicolon (front ts).kind ≡ false → mc.ended ts ≡ ts
-ended-stop [] h = refl
-ended-stop (s ∷ ts) h = ap (λ a. if a then ts else s ∷ ts) h
+-- a token before which a semicolon is inserted, and which is none
+pub ended-stop : (to : Symbols → State) (ts : Symbols) → mc.is_semicolon (front ts).kind ≡ false → mc.may_insert (front ts) ≡ true → mc.ended to ts ≡ to ts
+ended-stop to [] h i = refl
+ended-stop to (s ∷ ts) h i = ap (λ a. mc.ended_by a (mc.may_insert s) to s ts) h ∙ ap (λ a. mc.ended_by false a to s ts) i
+
+pub insert-line : (s : Symbol) → s.newline ≡ true → mc.may_insert s ≡ true
+insert-line s h = ap (λ a. a || (mc.is_close_brace s.kind || mc.is_end s.kind)) h
+
+pub insert-brace : (s : Symbol) → s.kind ≡ k.Mark m.CloseBrace → mc.may_insert s ≡ true
+insert-brace s h = either s.newline (mc.is_close_brace s.kind || mc.is_end s.kind) (ap (λ kind. mc.is_close_brace kind || mc.is_end kind) h)
+
+pub insert-end : (s : Symbol) → s.kind ≡ k.End → mc.may_insert s ≡ true
+insert-end s h = either s.newline (mc.is_close_brace s.kind || mc.is_end s.kind) (ap (λ kind. mc.is_close_brace kind || mc.is_end kind) h)
 
 pub no-semicolon : (kind : TokenKind) → kind ≢ k.Mark m.Semicolon → mc.is_semicolon kind ≡ false
 no-semicolon (k.Mark m.Semicolon) h = absurd (h refl)
 no-semicolon _ h = refl
 
 -- the end of a statement is behind it
-pub ended-read : {reached : ℕ} {next : Symbol} {v : Symbols} → Ends reached next v → (ts : Symbols) → front ts ≡ next → mc.ended (v ++ ts) ≡ ts
-ended-read (e.written b) ts h = refl
-ended-read (e.at_brace c) ts h = ended-stop ts (ap (λ s. mc.is_semicolon s.kind) h ∙ ap mc.is_semicolon c)
-ended-read (e.at_end c) ts h = ended-stop ts (ap (λ s. mc.is_semicolon s.kind) h ∙ ap mc.is_semicolon c)
-ended-read {next = next} (e.at_line a b c) ts h = ended-stop ts (ap (λ s. mc.is_semicolon s.kind) h ∙ no-semicolon next.kind c)
+pub ended-read : {reached : ℕ} {next : Symbol} {v : Symbols} → Ends reached next v → (to : Symbols → State) (ts : Symbols) → front ts ≡ next → mc.ended to (v ++ ts) ≡ to ts
+ended-read (e.written b) to ts h = refl
+ended-read (e.at_brace c) to ts h = let f = ap (λ s. s.kind) h ∙ c in ended-stop to ts (ap mc.is_semicolon f) (insert-brace (front ts) f)
+ended-read (e.at_end c) to ts h = let f = ap (λ s. s.kind) h ∙ c in ended-stop to ts (ap mc.is_semicolon f) (insert-end (front ts) f)
+ended-read {next = next} (e.at_line a b c) to ts h =
+    ended-stop to ts (ap (λ s. mc.is_semicolon s.kind) h ∙ no-semicolon next.kind c) (insert-line (front ts) (ap (λ s. s.newline) h ∙ a))
 
 -- and what follows an expression before it goes on with none
 pub ends-follow : {next : Symbol} {v : Symbols} (u : Symbols) → Ends (reach u next) next v → (ts : Symbols) → front ts ≡ next → reach_in true u (front (v ++ ts)) < 1
@@ -314,92 +391,92 @@ not-colon kind h is = let f = ap may_follow is in cc
 pub not-finally : (kind : TokenKind) → may_follow kind ≡ true → kind ≢ k.Word w.Finally
 not-finally kind h is = let f = ap may_follow is in cc
 
-pub list-start : (next : To Stmts) (s : Symbol) (ts : Symbols) (kind : TokenKind) → begins_statement kind ≡ true → mc.list_by kind next s ts ≡ statement (λ x r. list (λ xs o. next (Tree.MoreStmts x xs) o) r) (s ∷ ts)
-list-start next s ts (k.Mark m.CloseBrace) h = cc
-list-start next s ts k.End h = cc
-list-start next s ts (k.Word w.Case) h = cc
-list-start next s ts (k.Word w.Default) h = cc
-list-start next s ts _ h = refl
+pub list-start : (c : Context) (next : To Stmts) (s : Symbol) (ts : Symbols) (kind : TokenKind) → begins_statement kind ≡ true → mc.list_by c kind next s ts ≡ statement c (λ x r. list c (λ xs o. next (Tree.MoreStmts x xs) o) r) (s ∷ ts)
+list-start c next s ts (k.Mark m.CloseBrace) h = cc
+list-start c next s ts k.End h = cc
+list-start c next s ts (k.Word w.Case) h = cc
+list-start c next s ts (k.Word w.Default) h = cc
+list-start c next s ts _ h = refl
 
-pub source-start : (next : To Stmts) (s : Symbol) (ts : Symbols) (kind : TokenKind) → begins_statement kind ≡ true → mc.source_by kind next s ts ≡ statement (λ x r. source (λ xs o. next (Tree.MoreStmts x xs) o) r) (s ∷ ts)
-source-start next s ts (k.Mark m.CloseBrace) h = cc
-source-start next s ts k.End h = cc
-source-start next s ts (k.Word w.Function) h = cc
-source-start next s ts _ h = refl
+pub source-start : (form : Form) (c : Context) (next : To Stmts) (s : Symbol) (ts : Symbols) (kind : TokenKind) → begins_statement kind ≡ true → mc.source_by form c kind next s ts ≡ statement c (λ x r. source c (λ xs o. next (Tree.MoreStmts x xs) o) r) (s ∷ ts)
+source-start form c next s ts (k.Mark m.CloseBrace) h = cc
+source-start form c next s ts k.End h = cc
+source-start form c next s ts (k.Word w.Function) h = cc
+source-start form c next s ts _ h = refl
 
-pub list-stop : {form : Form} (next : To Stmts) (ts : Symbols) → stops (front ts).kind ≡ true → Goes form (list next ts) (next Tree.NoStmts ts)
-list-stop next [] h = then_on here
-list-stop next (s ∷ ts) h = stepped (at s.kind h) here
+pub list-stop : {form : Form} (c : Context) (next : To Stmts) (ts : Symbols) → stops (front ts).kind ≡ true → Goes form (list c next ts) (next Tree.NoStmts ts)
+list-stop c next [] h = then_on here
+list-stop c next (s ∷ ts) h = stepped (at s.kind h) here
   where
-    at : (kind : TokenKind) → stops kind ≡ true → mc.list_by kind next s ts ≡ next Tree.NoStmts (s ∷ ts)
+    at : (kind : TokenKind) → stops kind ≡ true → mc.list_by c kind next s ts ≡ next Tree.NoStmts (s ∷ ts)
     at (k.Mark m.CloseBrace) h = refl
     at k.End h = refl
     at (k.Word w.Case) h = refl
     at (k.Word w.Default) h = refl
     at _ h = cc
 
-pub source-stop : {form : Form} (next : To Stmts) (ts : Symbols) → closes (front ts).kind ≡ true → Goes form (source next ts) (next Tree.NoStmts ts)
-source-stop next [] h = then_on here
-source-stop next (s ∷ ts) h = stepped (at s.kind h) here
+pub source-stop : {form : Form} (c : Context) (next : To Stmts) (ts : Symbols) → closes (front ts).kind ≡ true → Goes form (source c next ts) (next Tree.NoStmts ts)
+source-stop c next [] h = then_on here
+source-stop {form = form} c next (s ∷ ts) h = stepped (at s.kind h) here
   where
-    at : (kind : TokenKind) → closes kind ≡ true → mc.source_by kind next s ts ≡ next Tree.NoStmts (s ∷ ts)
+    at : (kind : TokenKind) → closes kind ≡ true → mc.source_by form c kind next s ts ≡ next Tree.NoStmts (s ∷ ts)
     at (k.Mark m.CloseBrace) h = refl
     at k.End h = refl
     at _ h = cc
 
-pub label-free : (n : Name) (next : To Stmt) (s : Symbol) (ts : Symbols) → colon_first ts ≡ false → mc.label n next s ts ≡ mc.stated next (s ∷ ts)
-label-free n next s [] h = refl
-label-free n next s (t ∷ ts) h = at t.kind h
+pub label-free : (form : Form) (c : Context) (n : Name) (next : To Stmt) (s : Symbol) (ts : Symbols) → colon_first ts ≡ false → mc.label form c n next s ts ≡ mc.stated next (s ∷ ts)
+label-free form c n next s [] h = refl
+label-free form c n next s (t ∷ ts) h = at t.kind h
   where
-    at : (kind : TokenKind) → start.is_colon kind ≡ false → mc.label_by kind n next s t ts ≡ mc.stated next (s ∷ t ∷ ts)
+    at : (kind : TokenKind) → start.is_colon kind ≡ false → mc.label_by form c kind n next s t ts ≡ mc.stated next (s ∷ t ∷ ts)
     at (k.Mark m.Colon) h = cc
     at _ h = refl
 
-pub not-true : (a : Bool) → not a ≡ true → a ≡ false
-not-true true h = cc
-not-true false h = refl
+pub stated-start : (form : Form) (context : Context) (next : To Stmt) (s : Symbol) (ts : Symbols) (kind : TokenKind) → begins kind ≡ true → kind ≢ k.Mark m.OpenBrace → kind ≢ k.Word w.Function → not (start.is_name kind && colon_first ts) ≡ true
+    → mc.statement_by form context kind next s ts ≡ mc.stated next (s ∷ ts)
+stated-start form context next s ts (k.Mark m.OpenBrace) h a c d = absurd (a refl)
+stated-start form context next s ts (k.Word w.Function) h a c d = absurd (c refl)
+stated-start form context next s ts (k.Name n) h a c d = label-free form context n next s ts (not-true (colon_first ts) d)
+stated-start form context next s ts (k.Word w.Var) h a c d = cc
+stated-start form context next s ts (k.Word w.If) h a c d = cc
+stated-start form context next s ts (k.Word w.Do) h a c d = cc
+stated-start form context next s ts (k.Word w.While) h a c d = cc
+stated-start form context next s ts (k.Word w.For) h a c d = cc
+stated-start form context next s ts (k.Word w.Continue) h a c d = cc
+stated-start form context next s ts (k.Word w.Break) h a c d = cc
+stated-start form context next s ts (k.Word w.Return) h a c d = cc
+stated-start form context next s ts (k.Word w.Switch) h a c d = cc
+stated-start form context next s ts (k.Word w.Throw) h a c d = cc
+stated-start form context next s ts (k.Word w.Try) h a c d = cc
+stated-start form context next s ts (k.Mark m.Semicolon) h a c d = cc
+stated-start form context next s ts _ h a c d = refl
 
-pub stated-start : (next : To Stmt) (s : Symbol) (ts : Symbols) (kind : TokenKind) → begins kind ≡ true → kind ≢ k.Mark m.OpenBrace → kind ≢ k.Word w.Function → not (start.is_name kind && colon_first ts) ≡ true
-    → mc.statement_by kind next s ts ≡ mc.stated next (s ∷ ts)
-stated-start next s ts (k.Mark m.OpenBrace) h a c d = absurd (a refl)
-stated-start next s ts (k.Word w.Function) h a c d = absurd (c refl)
-stated-start next s ts (k.Name n) h a c d = label-free n next s ts (not-true (colon_first ts) d)
-stated-start next s ts (k.Word w.Var) h a c d = cc
-stated-start next s ts (k.Word w.If) h a c d = cc
-stated-start next s ts (k.Word w.Do) h a c d = cc
-stated-start next s ts (k.Word w.While) h a c d = cc
-stated-start next s ts (k.Word w.For) h a c d = cc
-stated-start next s ts (k.Word w.Continue) h a c d = cc
-stated-start next s ts (k.Word w.Break) h a c d = cc
-stated-start next s ts (k.Word w.Return) h a c d = cc
-stated-start next s ts (k.Word w.Switch) h a c d = cc
-stated-start next s ts (k.Word w.Throw) h a c d = cc
-stated-start next s ts (k.Word w.Try) h a c d = cc
-stated-start next s ts (k.Mark m.Semicolon) h a c d = cc
-stated-start next s ts _ h a c d = refl
+pub block-step : {form : Form} {c : Context} {u : Symbols} {s : Stmt} → Block form c u s → (to : To Stmt) (ts : Symbols)
+    → step form (statement c to (u ++ ts)) ≡ mc.block c to (u ++ ts)
+block-step (g.braces b d ss) to ts = refl
 
-pub if-stop : (x : Expr) (body : Stmt) (next : To Stmt) (ts : Symbols) → (front ts).kind ≢ k.Word w.Else → mc.after_if x body next ts ≡ next (Tree.If x body Tree.NoStmt) ts
-if-stop x body next [] h = refl
-if-stop x body next (s ∷ ts) h = at s.kind h
+pub if-stop : (c : Context) (x : Expr) (body : Stmt) (next : To Stmt) (ts : Symbols) → (front ts).kind ≢ k.Word w.Else → mc.after_if c x body next ts ≡ next (Tree.If x body Tree.NoStmt) ts
+if-stop c x body next [] h = refl
+if-stop c x body next (s ∷ ts) h = at s.kind h
   where
-    at : (kind : TokenKind) → kind ≢ k.Word w.Else → mc.if_by kind x body next s ts ≡ next (Tree.If x body Tree.NoStmt) (s ∷ ts)
+    at : (kind : TokenKind) → kind ≢ k.Word w.Else → mc.if_by c kind x body next s ts ≡ next (Tree.If x body Tree.NoStmt) (s ∷ ts)
     at (k.Word w.Else) h = absurd (h refl)
     at _ h = refl
 
-pub finally-stop : (block : Stmt) (caught : Tree.Handler) (next : To Stmt) (ts : Symbols) → (front ts).kind ≢ k.Word w.Finally → mc.after_catch block caught next ts ≡ next (Tree.Try block caught Tree.NoStmt) ts
-finally-stop block caught next [] h = refl
-finally-stop block caught next (s ∷ ts) h = at s.kind h
+pub finally-stop : (c : Context) (block : Stmt) (caught : Tree.Handler) (next : To Stmt) (ts : Symbols) → (front ts).kind ≢ k.Word w.Finally → mc.after_catch c block caught next ts ≡ next (Tree.Try block caught Tree.NoStmt) ts
+finally-stop c block caught next [] h = refl
+finally-stop c block caught next (s ∷ ts) h = at s.kind h
   where
-    at : (kind : TokenKind) → kind ≢ k.Word w.Finally → mc.finally_by kind block caught next s ts ≡ next (Tree.Try block caught Tree.NoStmt) (s ∷ ts)
+    at : (kind : TokenKind) → kind ≢ k.Word w.Finally → mc.finally_by c kind block caught next s ts ≡ next (Tree.Try block caught Tree.NoStmt) (s ∷ ts)
     at (k.Word w.Finally) h = absurd (h refl)
     at _ h = refl
 
-pub header-start : (next : To Stmt) (s : Symbol) (ts : Symbols) (kind : TokenKind) → begins kind ≡ true → mc.for_by kind next s ts ≡ comma false (λ x r. mc.for_expression x next r) (s ∷ ts)
-header-start next s ts (k.Word w.Var) h = cc
-header-start next s ts (k.Mark m.Semicolon) h = cc
-header-start next s ts _ h = refl
+pub header-start : (c : Context) (next : To Stmt) (s : Symbol) (ts : Symbols) (kind : TokenKind) → begins kind ≡ true → mc.for_by c kind next s ts ≡ comma false (λ x r. mc.for_expression c x next r) (s ∷ ts)
+header-start c next s ts (k.Word w.Var) h = cc
+header-start c next s ts (k.Mark m.Semicolon) h = cc
+header-start c next s ts _ h = refl
 
-pub return-start : (next : To Stmt) (s : Symbol) (ts : Symbols) (kind : TokenKind) → begins kind ≡ true → mc.return_by false kind next s ts ≡ comma true (λ x r. next (Tree.Return (Tree.AnExpr x)) (mc.ended r)) (s ∷ ts)
+pub return-start : (next : To Stmt) (s : Symbol) (ts : Symbols) (kind : TokenKind) → begins kind ≡ true → mc.return_by false kind next s ts ≡ comma true (λ x r. mc.ended (next (Tree.Return (Tree.AnExpr x))) r) (s ∷ ts)
 return-start next s ts (k.Mark m.Semicolon) h = cc
 return-start next s ts (k.Mark m.CloseBrace) h = cc
 return-start next s ts k.End h = cc
@@ -419,35 +496,43 @@ label-line (k.Str text) = refl
 label-line (k.Mark m) = refl
 label-line k.End = refl
 
-pub jump-at : (made : Option Name → Stmt) (next : To Stmt) (s : Symbol) (ts : Symbols) (kind : TokenKind) (newline : Bool) → begins_label kind newline ≡ false
-    → mc.jump_by kind newline made next s ts ≡ next (made None) (mc.ended_at_once (s ∷ ts))
-jump-at made next s ts (k.Name n) false h = cc
-jump-at made next s ts (k.Name n) true h = refl
-jump-at made next s ts (k.Word w) newline h = refl
-jump-at made next s ts (k.Number n) newline h = refl
-jump-at made next s ts (k.Str text) newline h = refl
-jump-at made next s ts (k.Mark m) newline h = refl
-jump-at made next s ts k.End newline h = refl
+pub jump-at : (form : Form) (names : List Name) (made : Option Name → Stmt) (next : To Stmt) (s : Symbol) (ts : Symbols) (kind : TokenKind) (newline : Bool) → begins_label kind newline ≡ false
+    → mc.jump_by form kind newline true names made next s ts ≡ mc.ended_at_once (next (made None)) (s ∷ ts)
+jump-at form names made next s ts (k.Name n) false h = cc
+jump-at form names made next s ts (k.Name n) true h = refl
+jump-at form names made next s ts (k.Word w) newline h = refl
+jump-at form names made next s ts (k.Number n) newline h = refl
+jump-at form names made next s ts (k.Str text) newline h = refl
+jump-at form names made next s ts (k.Mark m) newline h = refl
+jump-at form names made next s ts k.End newline h = refl
 
-pub at-once-stop : (s : Symbol) (ts : Symbols) → (mc.is_semicolon s.kind && not s.newline) ≡ false → mc.ended_at_once (s ∷ ts) ≡ s ∷ ts
-at-once-stop s ts h = ap (λ a. if a then ts else s ∷ ts) h
+pub at-once-stop : (to : Symbols → State) (s : Symbol) (ts : Symbols) → (mc.is_semicolon s.kind && not s.newline) ≡ false → mc.may_insert s ≡ true → mc.ended_at_once to (s ∷ ts) ≡ to (s ∷ ts)
+at-once-stop to s ts h i = ap (λ a. mc.ended_by a (mc.may_insert s) to s ts) h ∙ ap (λ a. mc.ended_by false a to s ts) i
 
 pub and-false : (a : Bool) → (a && false) ≡ false
 and-false true = refl
 and-false false = refl
 
-pub jump-read : {next : Symbol} {v : Symbols} → EndsAtOnce next v → (made : Option Name → Stmt) (to : To Stmt) (ts : Symbols) → front ts ≡ next → mc.jump made to (v ++ ts) ≡ to (made None) ts
-jump-read e.semicolon made to ts h = refl
-jump-read (e.before_brace c) made to [] h = refl
-jump-read (e.before_brace c) made to (s ∷ ts) h = let f = ap (λ s. s.kind) h ∙ c in
-    jump-at made to s ts s.kind s.newline (ap (λ kind. begins_label kind s.newline) f) ∙ ap (to (made None)) (at-once-stop s ts (ap (λ kind. mc.is_semicolon kind && not s.newline) f))
-jump-read (e.before_end c) made to [] h = refl
-jump-read (e.before_end c) made to (s ∷ ts) h = let f = ap (λ s. s.kind) h ∙ c in
-    jump-at made to s ts s.kind s.newline (ap (λ kind. begins_label kind s.newline) f) ∙ ap (to (made None)) (at-once-stop s ts (ap (λ kind. mc.is_semicolon kind && not s.newline) f))
-jump-read (e.before_line c) made to [] h = refl
-jump-read (e.before_line c) made to (s ∷ ts) h = let f = ap (λ s. s.newline) h ∙ c in
-    jump-at made to s ts s.kind s.newline (ap (begins_label s.kind) f ∙ label-line s.kind)
-    ∙ ap (to (made None)) (at-once-stop s ts (ap (λ newline. mc.is_semicolon s.kind && not newline) f ∙ and-false (mc.is_semicolon s.kind)))
+pub jump-read : (form : Form) {next : Symbol} {v : Symbols} → EndsAtOnce next v → (names : List Name) (made : Option Name → Stmt) (to : To Stmt) (ts : Symbols) → front ts ≡ next
+    → mc.jump form true names made to (v ++ ts) ≡ to (made None) ts
+jump-read form e.semicolon names made to ts h = refl
+jump-read form (e.before_brace c) names made to [] h = refl
+jump-read form (e.before_brace c) names made to (s ∷ ts) h = let f = ap (λ s. s.kind) h ∙ c in
+    jump-at form names made to s ts s.kind s.newline (ap (λ kind. begins_label kind s.newline) f)
+    ∙ at-once-stop (to (made None)) s ts (ap (λ kind. mc.is_semicolon kind && not s.newline) f) (insert-brace s f)
+jump-read form (e.before_end c) names made to [] h = refl
+jump-read form (e.before_end c) names made to (s ∷ ts) h = let f = ap (λ s. s.kind) h ∙ c in
+    jump-at form names made to s ts s.kind s.newline (ap (λ kind. begins_label kind s.newline) f)
+    ∙ at-once-stop (to (made None)) s ts (ap (λ kind. mc.is_semicolon kind && not s.newline) f) (insert-end s f)
+jump-read form (e.before_line c) names made to [] h = refl
+jump-read form (e.before_line c) names made to (s ∷ ts) h = let f = ap (λ s. s.newline) h ∙ c in
+    jump-at form names made to s ts s.kind s.newline (ap (begins_label s.kind) f ∙ label-line s.kind)
+    ∙ at-once-stop (to (made None)) s ts (ap (λ newline. mc.is_semicolon s.kind && not newline) f ∙ and-false (mc.is_semicolon s.kind)) (insert-line s f)
+
+-- a name is among some
+pub among-some : (n : Name) (names : List Name) → is_among n names ≡ true → mc.are_some names ≡ true
+among-some n [] h = cc
+among-some n (o ∷ names) h = refl
 
 pub return-brace : (newline : Bool) (to : To Stmt) (s : Symbol) (ts : Symbols) → mc.return_by newline (k.Mark m.CloseBrace) to s ts ≡ to (Tree.Return Tree.NoExpr) (s ∷ ts)
 return-brace true to s ts = refl
@@ -553,11 +638,11 @@ closes-stop (k.Mark m.CloseBrace) h = refl
 closes-stop k.End h = refl
 closes-stop _ h = cc
 
-pub clauses-end : {form : Form} (next : To Cases) (ts : Symbols) → closes (front ts).kind ≡ true → Goes form (clauses next ts) (next Tree.NoCases ts)
-clauses-end next [] h = then_on here
-clauses-end next (s ∷ ts) h = stepped (at s.kind h) here
+pub clauses-end : {form : Form} (c : Context) (may : Bool) (next : To Cases) (ts : Symbols) → closes (front ts).kind ≡ true → Goes form (clauses c may next ts) (next Tree.NoCases ts)
+clauses-end c may next [] h = then_on here
+clauses-end c may next (s ∷ ts) h = stepped (at s.kind h) here
   where
-    at : (kind : TokenKind) → closes kind ≡ true → mc.clauses_by kind next s ts ≡ next Tree.NoCases (s ∷ ts)
+    at : (kind : TokenKind) → closes kind ≡ true → mc.clauses_by c may kind next s ts ≡ next Tree.NoCases (s ∷ ts)
     at (k.Word w.Case) h = cc
     at (k.Word w.Default) h = cc
     at _ h = refl

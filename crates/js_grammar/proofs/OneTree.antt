@@ -1,5 +1,5 @@
 -- What has a tree by the grammar is read by the machine: the whole grammar.
-use Rattle.std.proofs.Common.{if◌then◌else◌, ◌≡◌, ℕ, ◌≤◌, ◌<◌, Bool, true, false, List, [], ◌∷◌, ◌++◌, Some, None, refl, ap, sym, ◌∙◌, subst, arith, lit≤, lit<}
+use Rattle.std.proofs.Common.{if◌then◌else◌, ◌≡◌, ℕ, ◌≤◌, ◌<◌, Bool, true, false, not, ◌&&◌, ◌||◌, List, [], ◌∷◌, ◌++◌, Some, None, refl, ap, sym, ◌∙◌, subst, arith, lit≤, lit<}
 use Rattle.std.proofs.lemmas.List.{append_assoc}
 use Rattle.js_lexer.specs.declared.mark.Mark.TheVariants as m
 use Rattle.js_lexer.specs.declared.token.TokenKind.TheVariants as k
@@ -8,8 +8,9 @@ use Rattle.js_tree.specs.Tree.{Name, Expr, Exprs, MaybeExpr, Elements, Pairs, St
 use Rattle.js_tree.specs.Tree
 use Rattle.js_grammar.specs.declared.form.Form.{Form}
 use Rattle.js_grammar.specs.Symbols.{Symbol, Symbols, of_kind, word, mark, name, first, end}
-use Rattle.js_grammar.specs.Operators.{joined, sign, level, prefix_sign, postfix_sign}
+use Rattle.js_grammar.specs.Operators.{joined, sign, level, prefix_sign, postfix_sign, changes, is_target}
 use Rattle.js_grammar.specs.Contexts.{Context}
+use Rattle.js_grammar.specs.Contexts as context
 use Rattle.js_grammar.specs.Ends.{ends_changed, kind_reach}
 use Rattle.js_grammar.specs.Grammar.{Formals, Expression, NewCallee, Arguments, ArgumentList, ElementList, PropertyList, FunctionRest, Declarator, DeclaratorList, OptionalExpression, ForFirst, Block, Statement, StatementList, CaseClauses, SourceElement, SourceElements, code}
 use Rattle.js_grammar.specs.Grammar as g
@@ -17,14 +18,13 @@ use Rattle.js_grammar.proofs.Levels.{more, expression-tokens}
 use Rattle.js_grammar.proofs.EndTokens.{Starts, one, begins, begins_operand, operand-starts, callee-starts, expression-starts, argument-starts, operand-end, callee-end, last-of, ends-any, colon_first, no_label, expression-no-label}
 use Rattle.js_grammar.proofs.EndTokens as start
 use Rattle.js_grammar.proofs.Machine.{State, done, stuck, comma, comma_tail, assign, choice, climb, tail, unary, postfix, operand, links, arguments, argument_list, elements, pairs, rest, formals, declarator, declarators, optional, statement, list, source, clauses, To, step, Goes, here, then_on, onwards, stepped}
-use Rattle.js_grammar.proofs.Machine.{one_end}
+use Rattle.js_grammar.proofs.Machine.{one_end, allowed}
 use Rattle.js_grammar.specs.Fault.{Begins}
 use Rattle.js_grammar.proofs.Machine as mc
-use Rattle.js_grammar.proofs.Machine.{stuck}
-use Rattle.js_grammar.specs.Names.{get_name}
+use Rattle.js_grammar.specs.Names.{get_name, is_reference, is_among}
 use Rattle.js_grammar.specs.Accepted.{Derives}
 use Rattle.js_grammar.proofs.MachineLevels.{front, reach_of, links-stop, tail-stop, new-stop, level-high, sign-reach, operates, prefixed, assigned, assigns-reach, no-prefix, Known, by-commas, by-choice, by-climb, by-unary, by-operand, by-linked, read-comma, read-assign, read-right, placed}
-use Rattle.js_grammar.proofs.MachineSteps.{same, from, not-eval, same-reach, same-reach-of, starting, elements-start, arguments-start, optional-start, post-reach, post-step, open_arguments, call-step, new-step, links-paren, function-step, formals-read, declared_in, list_in, list-same, list-none, bare-stop, declared-comma, declarators-stop, comma-declared, semicolon-declared, in-declared, more-items, declarator-list-tokens, ended-read, ends-follow, list-follow, may_follow, stops, closes, not-finally, list-start, source-start, list-stop, source-stop, stated-start, if-stop, finally-stop, header-start, return-start, jump-read, return-read, front-join, ends-colon, closer, statement-starts, list-may, source-may, clauses-stop, beginning, told, closes-stop, clauses-end}
+use Rattle.js_grammar.proofs.MachineSteps.{both, either, block-step, among-some, same, from, not-eval, same-reach, same-reach-of, starting, elements-start, arguments-start, optional-start, post-reach, post-step, open_arguments, call-step, new-step, links-paren, function-step, formals-read, declared_in, list_in, list-same, list-none, bare-stop, declared-comma, declarators-stop, comma-declared, semicolon-declared, in-declared, more-items, declarator-list-tokens, ended-read, ends-follow, list-follow, may_follow, stops, closes, not-finally, list-start, source-start, list-stop, source-stop, stated-start, if-stop, finally-stop, header-start, return-start, jump-read, return-read, front-join, ends-colon, closer, statement-starts, list-may, source-may, clauses-stop, beginning, told, closes-stop, clauses-end}
 
 -- ---- the grammar
 
@@ -36,24 +36,24 @@ called form l false x low up u v ts next t h d = let q = up refl in absurd (omeg
 called form l true x low up u v ts next t h d = placed (operand true next) (append_assoc u v ts) (h next (v ++ ts) t (d refl))
 
 -- a `for` header behind its first part, and the statement behind it
-for-read : (form : Form) (v z body ts : Symbols) (test last : MaybeExpr) (s : Stmt) (init : ForInit) (f j d : Bool) (to : To Stmt)
+for-read : (form : Form) (c : Context) (v z body ts : Symbols) (test last : MaybeExpr) (s : Stmt) (init : ForInit) (f j d : Bool) (to : To Stmt)
     → ((next : To MaybeExpr) (a d : Bool) (ts : Symbols) → Goes form (optional next (v ++ (mark (closer a) d ∷ ts))) (next test (mark (closer a) d ∷ ts)))
     → ((next : To MaybeExpr) (a d : Bool) (ts : Symbols) → Goes form (optional next (z ++ (mark (closer a) d ∷ ts))) (next last (mark (closer a) d ∷ ts)))
-    → ((to : To Stmt) → Goes form (statement to (body ++ ts)) (to s ts))
-    → Goes form (mc.for_rest init to (mark m.Semicolon d ∷ ((v ++ (mark m.Semicolon f ∷ (z ++ (mark m.CloseParenthesis j ∷ body)))) ++ ts))) (to (Tree.For init test last s) ts)
-for-read form v z body ts test last s init f j d to tests lasts inner =
-    placed (optional (λ test. mc.expect mc.is_semicolon (optional (λ last. mc.expect mc.is_close_parenthesis (statement (λ body r. to (Tree.For init test last body) r))))))
+    → ((to : To Stmt) → Goes form (statement c to (body ++ ts)) (to s ts))
+    → Goes form (mc.for_rest c init to (mark m.Semicolon d ∷ ((v ++ (mark m.Semicolon f ∷ (z ++ (mark m.CloseParenthesis j ∷ body)))) ++ ts))) (to (Tree.For init test last s) ts)
+for-read form c v z body ts test last s init f j d to tests lasts inner =
+    placed (optional (λ test. mc.expect mc.is_semicolon (optional (λ last. mc.expect mc.is_close_parenthesis (statement c (λ body r. to (Tree.For init test last body) r))))))
     (append_assoc v (mark m.Semicolon f ∷ (z ++ (mark m.CloseParenthesis j ∷ body))) ts)
-    (onwards (tests (λ test. mc.expect mc.is_semicolon (optional (λ last. mc.expect mc.is_close_parenthesis (statement (λ body r. to (Tree.For init test last body) r))))) true f ((z ++ (mark m.CloseParenthesis j ∷ body)) ++ ts))
-    (placed (optional (λ last. mc.expect mc.is_close_parenthesis (statement (λ body r. to (Tree.For init test last body) r)))) (append_assoc z (mark m.CloseParenthesis j ∷ body) ts)
-    (onwards (lasts (λ last. mc.expect mc.is_close_parenthesis (statement (λ body r. to (Tree.For init test last body) r))) false j (body ++ ts))
+    (onwards (tests (λ test. mc.expect mc.is_semicolon (optional (λ last. mc.expect mc.is_close_parenthesis (statement c (λ body r. to (Tree.For init test last body) r))))) true f ((z ++ (mark m.CloseParenthesis j ∷ body)) ++ ts))
+    (placed (optional (λ last. mc.expect mc.is_close_parenthesis (statement c (λ body r. to (Tree.For init test last body) r)))) (append_assoc z (mark m.CloseParenthesis j ∷ body) ts)
+    (onwards (lasts (λ last. mc.expect mc.is_close_parenthesis (statement c (λ body r. to (Tree.For init test last body) r))) false j (body ++ ts))
     (inner (λ body r. to (Tree.For init test last body) r)))))
 
 mutual
   known : {form : Form} {i : Bool} {l : ℕ} {u : Symbols} {x : Expr} → Expression form i l u x → Known form i l u x
   known {form = form} {i = i} {l = l} (g.this a h) = by-linked form i l _ _ (one _ _ refl) refl (λ c next ts t up d. then_on d)
   known {form = form} {i = i} {l = l} (g.identifier {n = n} a h r) =
-      by-linked form i l _ _ (one _ _ refl) refl (λ c next ts t up d. stepped (ap (λ o. mc.name_by o form n c next ts) (not-eval form n r) ∙ ap (λ a. if a then links c (Tree.Ident n) next ts else stuck) r) d)
+      by-linked form i l _ _ (one _ _ refl) refl (λ c next ts t up d. stepped (ap (λ o. mc.name_by o form n c next ts) (not-eval form n r)) (allowed r d))
   known {form = form} {i = i} {l = l} (g.null a h) = by-linked form i l _ _ (one _ _ refl) refl (λ c next ts t up d. then_on d)
   known {form = form} {i = i} {l = l} (g.truth a h) = by-linked form i l _ _ (one _ _ refl) refl (λ c next ts t up d. then_on d)
   known {form = form} {i = i} {l = l} (g.falsehood a h) = by-linked form i l _ _ (one _ _ refl) refl (λ c next ts t up d. then_on d)
@@ -76,15 +76,14 @@ mutual
       stepped (function-step f c next ts) (onwards (rest-read f (λ ns body r. links c (Tree.Function (code None ns body)) next r) ts) d))
   known {form = form} {i = i} {l = l} (g.named_function {n = n} a b h r f) =
       by-linked form i l _ _ (one _ _ refl) (operand-end {l = 16} (lit≤ tt) (g.named_function {i = i} {n = n} a b (lit≤ tt) r f)) (λ c next ts t up d.
-      then_on (onwards (rest-read f (λ ns body r. links c (Tree.Function (code (Some n) ns body)) next r) ts) d))
+      then_on (allowed r (onwards (rest-read f (λ ns body r. links c (Tree.Function (code (Some n) ns body)) next r) ts) d)))
   known {form = form} {i = i} {l = l} (g.late {n = n} c1 c2 c3 c4 c5 c6 c7 h written number) =
       by-linked form i l _ _ (one _ _ refl) refl (λ c next ts t up d.
-      stepped (ap (λ f. mc.late_in f c next (mark m.OpenParenthesis c2 ∷ name get_name c3 ∷ mark m.OpenParenthesis c4 ∷ of_kind (k.Number n) c5 ∷ mark m.CloseParenthesis c6 ∷ mark m.CloseParenthesis c7 ∷ ts)) written
-      ∙ ap (λ a. if a then links c (Tree.Late n) next ts else stuck) number) d)
+      stepped (ap (λ f. mc.late_in f c next (mark m.OpenParenthesis c2 ∷ name get_name c3 ∷ mark m.OpenParenthesis c4 ∷ of_kind (k.Number n) c5 ∷ mark m.CloseParenthesis c6 ∷ mark m.CloseParenthesis c7 ∷ ts)) written) (allowed number d))
   known {form = form} {i = i} {l = l} (g.dot {n = n} {u = u} {x = x} o a b h1 h2 h dx r) =
       by-linked form i l _ _ (start.starts-append u _ (operand-starts (omega arith) dx)) (operand-end {l = 17} (lit≤ tt) (g.dot o a b h1 h2 h1 dx r)) (λ c next ts t up d.
       placed (operand c next) (append_assoc u (mark m.Dot a ∷ (name n b ∷ [])) ts)
-      ((known dx).linked h1 c next (mark m.Dot a ∷ (name n b ∷ ts)) t (λ f. let q = up f in omega arith) (stepped (ap (λ a. if a then links c (Tree.Dot x n) next ts else stuck) r) d)))
+      ((known dx).linked h1 c next (mark m.Dot a ∷ (name n b ∷ ts)) t (λ f. let q = up f in omega arith) (then_on (allowed r d))))
   known {form = form} {i = i} {l = l} (g.index {u = u} {v = v} {x = x} o a b h1 h2 h dx dy) =
       by-linked form i l _ _ (start.starts-append u _ (operand-starts (omega arith) dx)) (operand-end {l = 17} (lit≤ tt) (g.index o a b h1 h2 h1 dx dy)) (λ c next ts t up d.
       placed (operand c next) (append_assoc u (mark m.OpenBracket a ∷ (v ++ (mark m.CloseBracket b ∷ []))) ts)
@@ -112,17 +111,19 @@ mutual
       (stepped (ap (λ o. mc.unary_by o next s.head (s.others ++ (of_kind (postfix_sign op) false ∷ ts))) (no-prefix s.head.kind s.passes))
       (subst (λ v. Goes form (operand true (λ x r. postfix x next r) (v ++ (of_kind (postfix_sign op) false ∷ ts))) (next (Tree.Postfix x op) ts)) s.are
       (onwards ((known dx).operand_is (lit≤ tt) (λ x r. postfix x next r) (of_kind (postfix_sign op) false ∷ ts) (post-reach op (ends_changed u)))
-      (stepped (post-step op x next (of_kind (postfix_sign op) false) ts) here))))))
+      (stepped (post-step op x next (of_kind (postfix_sign op) false) ts target) here))))))
   known {form = form} {i = i} {l = l} (g.prefix {u = u} {x = x} op a h n dx) =
       by-unary form i l _ _ (omega arith) (λ next ts reaches.
       stepped (ap (λ o. mc.unary_by o next (of_kind (prefix_sign op) a) (u ++ ts)) (prefixed op))
-      ((known dx).unary_is (lit≤ tt) (λ x r. next (Tree.Prefix op x) r) ts
-      (let e = same-reach-of (of_kind (prefix_sign op) a ∷ u) u (front ts) (last-of [] (of_kind (prefix_sign op) a) u (expression-tokens dx)) in omega (arith, e, reaches))))
+      (onwards ((known dx).unary_is (lit≤ tt) (λ x r. mc.guard (not (changes op) || is_target x) (next (Tree.Prefix op x) r)) ts
+      (let e = same-reach-of (of_kind (prefix_sign op) a ∷ u) u (front ts) (last-of [] (of_kind (prefix_sign op) a) u (expression-tokens dx)) in omega (arith, e, reaches)))
+      (allowed (ap (λ a. not a || is_target x) n) here)))
   known {form = form} {i = i} {l = l} (g.changed {u = u} {x = x} op a h n dx target) =
       by-unary form i l _ _ (omega arith) (λ next ts reaches.
       stepped (ap (λ o. mc.unary_by o next (of_kind (prefix_sign op) a) (u ++ ts)) (prefixed op))
-      ((known dx).unary_is (lit≤ tt) (λ x r. next (Tree.Prefix op x) r) ts
-      (let e = same-reach-of (of_kind (prefix_sign op) a ∷ u) u (front ts) (last-of [] (of_kind (prefix_sign op) a) u (expression-tokens dx)) in omega (arith, e, reaches))))
+      (onwards ((known dx).unary_is (lit≤ tt) (λ x r. mc.guard (not (changes op) || is_target x) (next (Tree.Prefix op x) r)) ts
+      (let e = same-reach-of (of_kind (prefix_sign op) a ∷ u) u (front ts) (last-of [] (of_kind (prefix_sign op) a) u (expression-tokens dx)) in omega (arith, e, reaches)))
+      (allowed (either (not (changes op)) (is_target x) target) here)))
   known {form = form} {i = i} {l = l} (g.binary {u = u} {v = v} {x = x} {y = y} op a h may dx dy) = let high = level-high op in
       by-climb form i l _ _ (level op) h high.0 high.1 (λ c low le least next ts t within reaches d.
       let e = same-reach (u ++ (of_kind (sign op) a ∷ v)) v i (front ts) (last-of u (of_kind (sign op) a) v (expression-tokens dy)) in
@@ -147,7 +148,7 @@ mutual
       placed (assign i next) (append_assoc u (mark joint a ∷ v) ts)
       (then_on ((known dx).climbs 4 (lit≤ tt) (lit≤ tt) (lit≤ tt) 4 (λ x r. choice i x next r) (mark joint a ∷ (v ++ ts)) _ (lit≤ tt) (omega (arith, two))
       (onwards (tail-stop i (ends_changed u) 4 x (λ x r. choice i x next r) (mark joint a ∷ (v ++ ts)) (omega (arith, two)))
-      (stepped (assigned op joint i x next (mark joint a) (v ++ ts) eq) (read-assign (known dy) (lit≤ tt) (λ y r. next (Tree.Assign op x y) r) ts (omega (arith, e, reaches))))))))
+      (stepped (assigned op joint i x next (mark joint a) (v ++ ts) eq) (allowed target (read-assign (known dy) (lit≤ tt) (λ y r. next (Tree.Assign op x y) r) ts (omega (arith, e, reaches)))))))))
   known {form = form} {i = i} {l = l} (g.comma {u = u} {v = v} {x = x} {y = y} a h dx dy) =
       by-commas form i l _ _ h (λ next ts t reaches d.
       let e = same-reach (u ++ (mark m.Comma a ∷ v)) v i (front ts) (last-of u (mark m.Comma a) v (expression-tokens dy)) in
@@ -207,17 +208,17 @@ mutual
   rest-read : {form : Form} {u : Symbols} {ns : List Name} {body : Stmts} → FunctionRest form u ns body → (next : List Name → Stmts → Symbols → State) (ts : Symbols)
       → Goes form (rest next (u ++ ts)) (next ns body ts)
   rest-read (g.function_rest {u = u} {v = v} {ns = ns} a b c d fs h body) next ts =
-      then_on (placed (formals (λ ns. mc.expect mc.is_close_parenthesis (mc.expect mc.is_open_brace (source (λ body. mc.expect mc.is_close_brace (next ns body))))))
+      then_on (placed (formals [] (λ ns. mc.expect mc.is_close_parenthesis (mc.expect mc.is_open_brace (source context.function (λ body. mc.expect mc.is_close_brace (next ns body))))))
       (append_assoc u (mark m.CloseParenthesis b ∷ (mark m.OpenBrace c ∷ (v ++ (mark m.CloseBrace d ∷ [])))) ts)
-      (onwards (formals-read fs (λ ns. mc.expect mc.is_close_parenthesis (mc.expect mc.is_open_brace (source (λ body. mc.expect mc.is_close_brace (next ns body))))) b (mark m.OpenBrace c ∷ ((v ++ (mark m.CloseBrace d ∷ [])) ++ ts)))
-      (placed (source (λ body. mc.expect mc.is_close_brace (next ns body))) (append_assoc v (mark m.CloseBrace d ∷ []) ts)
+      (onwards (formals-read fs [] h (λ ns. mc.expect mc.is_close_parenthesis (mc.expect mc.is_open_brace (source context.function (λ body. mc.expect mc.is_close_brace (next ns body))))) b (mark m.OpenBrace c ∷ ((v ++ (mark m.CloseBrace d ∷ [])) ++ ts)))
+      (placed (source context.function (λ body. mc.expect mc.is_close_brace (next ns body))) (append_assoc v (mark m.CloseBrace d ∷ []) ts)
       (source-read body (λ body. mc.expect mc.is_close_brace (next ns body)) (mark m.CloseBrace d ∷ ts) refl refl))))
 
   declarator-read : {form : Form} {i : Bool} {u : Symbols} {n : Name} {value : MaybeExpr} → Declarator form i u n value → (next : Name → MaybeExpr → Symbols → State) (ts : Symbols) → declared_in i u (front ts) value < 2
       → Goes form (declarator i next (u ++ ts)) (next n value ts)
-  declarator-read {i = i} (g.bare {n = n} a h) next ts reaches = stepped (ap (λ a. if a then mc.initialiser i n next ts else stuck) h) (same (bare-stop i n next ts reaches))
+  declarator-read {i = i} (g.bare {n = n} a h) next ts reaches = then_on (allowed h (same (bare-stop i n next ts reaches)))
   declarator-read {i = i} (g.initialised {n = n} {u = u} a b h x) next ts reaches =
-      stepped (ap (λ a. if a then mc.initialiser i n next (mark m.Assign b ∷ (u ++ ts)) else stuck) h) (read-assign (known x) (lit≤ tt) (λ x r. next n (Tree.AnExpr x) r) ts reaches)
+      then_on (allowed h (read-assign (known x) (lit≤ tt) (λ x r. next n (Tree.AnExpr x) r) ts reaches))
 
   declarators-read : {form : Form} {i : Bool} {u : Symbols} {items : VarItems} → DeclaratorList form i u items → (next : To VarItems) (ts : Symbols) → list_in i u (front ts) items < 1
       → Goes form (declarators i next (u ++ ts)) (next items ts)
@@ -241,151 +242,161 @@ mutual
       starting (optional next) (comma true (λ x r. next (Tree.AnExpr x) r)) u (mark m.CloseParenthesis d ∷ ts) (expression-starts x) (λ s rs h. optional-start next s rs s.kind h)
       (read-comma (known x) (lit≤ tt) (λ x r. next (Tree.AnExpr x) r) (mark m.CloseParenthesis d ∷ ts) (lit< tt))
 
-  first-read : {form : Form} {t : State} {u : Symbols} {init : ForInit} → ForFirst form u init → (next : To Stmt) (d : Bool) (ts : Symbols)
-      → Goes form (mc.for_rest init next (mark m.Semicolon d ∷ ts)) t → Goes form (mc.for_header next (u ++ (mark m.Semicolon d ∷ ts))) t
-  first-read g.nothing_first next d ts o = o
-  first-read (g.variables_first b (g.last_declarator {n = n} {u = u} {value = value} x)) next d ts o =
-      onwards (declarator-read x (λ n value r. mc.for_var n value next r) (mark m.Semicolon d ∷ ts) (semicolon-declared false u d value)) o
-  first-read (g.variables_first b (g.declarator_and {n = n} {u = u} {v = v} {value = value} {items = items} a x xs)) next d ts o =
-      placed (declarator false (λ n value r. mc.for_var n value next r)) (append_assoc u (mark m.Comma a ∷ v) (mark m.Semicolon d ∷ ts))
-      (onwards (declarator-read x (λ n value r. mc.for_var n value next r) (mark m.Comma a ∷ (v ++ (mark m.Semicolon d ∷ ts))) (comma-declared false u a value))
-      (onwards (declarators-read xs (λ items r. mc.for_rest (Tree.Vars (Tree.MoreVarItems n value items)) next r) (mark m.Semicolon d ∷ ts)
+  first-read : {form : Form} {t : State} {u : Symbols} {init : ForInit} → ForFirst form u init → (c : Context) (next : To Stmt) (d : Bool) (ts : Symbols)
+      → Goes form (mc.for_rest c init next (mark m.Semicolon d ∷ ts)) t → Goes form (mc.for_header c next (u ++ (mark m.Semicolon d ∷ ts))) t
+  first-read g.nothing_first c next d ts o = o
+  first-read (g.variables_first b (g.last_declarator {n = n} {u = u} {value = value} x)) c next d ts o =
+      onwards (declarator-read x (λ n value r. mc.for_var c n value next r) (mark m.Semicolon d ∷ ts) (semicolon-declared false u d value)) o
+  first-read (g.variables_first b (g.declarator_and {n = n} {u = u} {v = v} {value = value} {items = items} a x xs)) c next d ts o =
+      placed (declarator false (λ n value r. mc.for_var c n value next r)) (append_assoc u (mark m.Comma a ∷ v) (mark m.Semicolon d ∷ ts))
+      (onwards (declarator-read x (λ n value r. mc.for_var c n value next r) (mark m.Comma a ∷ (v ++ (mark m.Semicolon d ∷ ts))) (comma-declared false u a value))
+      (onwards (declarators-read xs (λ items r. mc.for_rest c (Tree.Vars (Tree.MoreVarItems n value items)) next r) (mark m.Semicolon d ∷ ts)
       (let e = list-none false v (mark m.Semicolon d) items refl refl in omega (arith, e))) o))
-  first-read (g.expression_first {u = u} x) next d ts o =
-      told (mc.for_header next) (comma false (λ x r. mc.for_expression x next r)) u (mark m.Semicolon d ∷ ts) (expression-starts x) (λ s rs h. header-start next s rs s.kind h)
-      (onwards (read-comma (known x) (lit≤ tt) (λ x r. mc.for_expression x next r) (mark m.Semicolon d ∷ ts) (lit< tt)) o)
+  first-read (g.expression_first {u = u} x) c next d ts o =
+      told (mc.for_header c next) (comma false (λ x r. mc.for_expression c x next r)) u (mark m.Semicolon d ∷ ts) (expression-starts x) (λ s rs h. header-start c next s rs s.kind h)
+      (onwards (read-comma (known x) (lit≤ tt) (λ x r. mc.for_expression c x next r) (mark m.Semicolon d ∷ ts) (lit< tt)) o)
 
-  block-read : {form : Form} {c : Context} {u : Symbols} {s : Stmt} → Block form c u s → (to : To Stmt) (ts : Symbols) → Goes form (statement to (u ++ ts)) (to s ts)
-  block-read (g.braces {u = u} b d ss) to ts =
-      then_on (placed (list (λ ss. mc.expect mc.is_close_brace (to (Tree.Block ss)))) (append_assoc u (mark m.CloseBrace d ∷ []) ts)
-      (list-read ss (λ ss. mc.expect mc.is_close_brace (to (Tree.Block ss))) (mark m.CloseBrace d ∷ ts) refl refl))
+  block-read : {form : Form} {c : Context} {u : Symbols} {s : Stmt} → Block form c u s → (to : To Stmt) (ts : Symbols) → Goes form (mc.block c to (u ++ ts)) (to s ts)
+  block-read {c = c} (g.braces {u = u} b d ss) to ts =
+      placed (list (context.part c) (λ ss. mc.expect mc.is_close_brace (to (Tree.Block ss)))) (append_assoc u (mark m.CloseBrace d ∷ []) ts)
+      (list-read ss (λ ss. mc.expect mc.is_close_brace (to (Tree.Block ss))) (mark m.CloseBrace d ∷ ts) refl refl)
 
   statement-read : {form : Form} {c : Context} {u : Symbols} {next : Symbol} {s : Stmt} → Statement form c u next s → (to : To Stmt) (ts : Symbols) → front ts ≡ next → may_follow next.kind ≡ true
-      → Goes form (statement to (u ++ ts)) (to s ts)
-  statement-read (g.block b) to ts h may = block-read b to ts
-  statement-read (g.variables {u = u} {v = v} {items = items} b xs ends) to ts h may =
-      then_on (placed (declarators true (λ items r. to (Tree.Variables items) (mc.ended r))) (append_assoc u v ts)
-      (onwards (declarators-read xs (λ items r. to (Tree.Variables items) (mc.ended r)) (v ++ ts) (list-follow u items ends ts h)) (same (ap (to (Tree.Variables items)) (ended-read ends ts h)))))
-  statement-read (g.empty b) to ts h may = then_on here
-  statement-read {form = form} (g.expression {next = next} {u = u} {v = v} {x = x} dx h1 h2 ends) to ts h may =
+      → Goes form (statement c to (u ++ ts)) (to s ts)
+  statement-read {form = form} {c = c} (g.block b) to ts h may = stepped (block-step b to ts) (block-read b to ts)
+  statement-read {form = form} {c = c} (g.variables {u = u} {v = v} {items = items} b xs ends) to ts h may =
+      then_on (placed (declarators true (λ items r. mc.ended (to (Tree.Variables items)) r)) (append_assoc u v ts)
+      (onwards (declarators-read xs (λ items r. mc.ended (to (Tree.Variables items)) r) (v ++ ts) (list-follow u items ends ts h)) (same (ended-read ends (to (Tree.Variables items)) ts h))))
+  statement-read {form = form} {c = c} (g.empty b) to ts h may = then_on here
+  statement-read {form = form} {c = c} (g.expression {next = next} {u = u} {v = v} {x = x} dx h1 h2 ends) to ts h may =
       let b = expression-starts dx in let free = expression-no-label dx (v ++ ts) (ends-colon ends ts h may) in
-      placed (statement to) (append_assoc u v ts)
-      (subst (λ w. Goes form (statement to (w ++ (v ++ ts))) (to (Tree.Do x) ts)) (sym b.are)
-      (stepped (stated-start to b.head (b.others ++ (v ++ ts)) b.head.kind b.passes (λ f. h1 (ap (λ t. (first t next).kind) b.are ∙ f)) (λ f. h2 (ap (λ t. (first t next).kind) b.are ∙ f))
+      placed (statement c to) (append_assoc u v ts)
+      (subst (λ w. Goes form (statement c to (w ++ (v ++ ts))) (to (Tree.Do x) ts)) (sym b.are)
+      (stepped (stated-start form c to b.head (b.others ++ (v ++ ts)) b.head.kind b.passes (λ f. h1 (ap (λ t. (first t next).kind) b.are ∙ f)) (λ f. h2 (ap (λ t. (first t next).kind) b.are ∙ f))
       (sym (ap (λ w. no_label (w ++ (v ++ ts))) b.are) ∙ free))
       (subst (λ w. Goes form (mc.stated to (w ++ (v ++ ts))) (to (Tree.Do x) ts)) b.are
-      (onwards (read-comma (known dx) (lit≤ tt) (λ x r. to (Tree.Do x) (mc.ended r)) (v ++ ts) (ends-follow u ends ts h)) (same (ap (to (Tree.Do x)) (ended-read ends ts h)))))))
-  statement-read (g.if {next = next} {u = u} {v = v} {x = x} {s = s} b d f dx ds away) to ts h may =
-      then_on (placed (comma true (λ x. mc.expect mc.is_close_parenthesis (statement (λ body r. mc.after_if x body to r)))) (append_assoc u (mark m.CloseParenthesis f ∷ v) ts)
-      (onwards (read-comma (known dx) (lit≤ tt) (λ x. mc.expect mc.is_close_parenthesis (statement (λ body r. mc.after_if x body to r))) (mark m.CloseParenthesis f ∷ (v ++ ts)) (lit< tt))
-      (onwards (statement-read ds (λ body r. mc.after_if x body to r) ts h may) (same (if-stop x s to ts (λ e. away (sym (ap (λ s. s.kind) h) ∙ e)))))))
-  statement-read (g.if_else {u = u} {v = v} {z = z} {x = x} {s = s} b d f j dx ds dz) to ts h may =
-      then_on (placed (comma true (λ x. mc.expect mc.is_close_parenthesis (statement (λ body r. mc.after_if x body to r)))) (append_assoc u (mark m.CloseParenthesis f ∷ (v ++ (word w.Else j ∷ z))) ts)
-      (onwards (read-comma (known dx) (lit≤ tt) (λ x. mc.expect mc.is_close_parenthesis (statement (λ body r. mc.after_if x body to r))) (mark m.CloseParenthesis f ∷ ((v ++ (word w.Else j ∷ z)) ++ ts)) (lit< tt))
-      (placed (statement (λ body r. mc.after_if x body to r)) (append_assoc v (word w.Else j ∷ z) ts)
-      (onwards (statement-read ds (λ body r. mc.after_if x body to r) (word w.Else j ∷ (z ++ ts)) refl refl)
+      (onwards (read-comma (known dx) (lit≤ tt) (λ x r. mc.ended (to (Tree.Do x)) r) (v ++ ts) (ends-follow u ends ts h)) (same (ended-read ends (to (Tree.Do x)) ts h))))))
+  statement-read {form = form} {c = c} (g.if {next = next} {u = u} {v = v} {x = x} {s = s} b d f dx ds away) to ts h may =
+      then_on (placed (comma true (λ x. mc.expect mc.is_close_parenthesis (statement (context.part c) (λ body r. mc.after_if c x body to r)))) (append_assoc u (mark m.CloseParenthesis f ∷ v) ts)
+      (onwards (read-comma (known dx) (lit≤ tt) (λ x. mc.expect mc.is_close_parenthesis (statement (context.part c) (λ body r. mc.after_if c x body to r))) (mark m.CloseParenthesis f ∷ (v ++ ts)) (lit< tt))
+      (onwards (statement-read ds (λ body r. mc.after_if c x body to r) ts h may) (same (if-stop c x s to ts (λ e. away (sym (ap (λ s. s.kind) h) ∙ e)))))))
+  statement-read {form = form} {c = c} (g.if_else {u = u} {v = v} {z = z} {x = x} {s = s} b d f j dx ds dz) to ts h may =
+      then_on (placed (comma true (λ x. mc.expect mc.is_close_parenthesis (statement (context.part c) (λ body r. mc.after_if c x body to r)))) (append_assoc u (mark m.CloseParenthesis f ∷ (v ++ (word w.Else j ∷ z))) ts)
+      (onwards (read-comma (known dx) (lit≤ tt) (λ x. mc.expect mc.is_close_parenthesis (statement (context.part c) (λ body r. mc.after_if c x body to r))) (mark m.CloseParenthesis f ∷ ((v ++ (word w.Else j ∷ z)) ++ ts)) (lit< tt))
+      (placed (statement (context.part c) (λ body r. mc.after_if c x body to r)) (append_assoc v (word w.Else j ∷ z) ts)
+      (onwards (statement-read ds (λ body r. mc.after_if c x body to r) (word w.Else j ∷ (z ++ ts)) refl refl)
       (statement-read dz (λ other r. to (Tree.If x s (Tree.AStmt other)) r) ts h may)))))
-  statement-read (g.do_while {u = u} {v = v} {z = z} {x = x} {s = s} b d f j ds dx ends) to ts h may =
-      then_on (placed (statement (λ body. mc.expect mc.is_while (mc.expect mc.is_open_parenthesis (comma true (λ x. mc.expect mc.is_close_parenthesis (λ r. to (Tree.DoWhile body x) (mc.ended r)))))))
+  statement-read {form = form} {c = c} (g.do_while {u = u} {v = v} {z = z} {x = x} {s = s} b d f j ds dx ends) to ts h may =
+      then_on (placed (statement (context.loop c) (λ body. mc.expect mc.is_while (mc.expect mc.is_open_parenthesis (comma true (λ x. mc.expect mc.is_close_parenthesis (mc.ended (to (Tree.DoWhile body x))))))))
       (append_assoc u (word w.While d ∷ (mark m.OpenParenthesis f ∷ (v ++ (mark m.CloseParenthesis j ∷ z)))) ts)
-      (onwards (statement-read ds (λ body. mc.expect mc.is_while (mc.expect mc.is_open_parenthesis (comma true (λ x. mc.expect mc.is_close_parenthesis (λ r. to (Tree.DoWhile body x) (mc.ended r))))))
+      (onwards (statement-read ds (λ body. mc.expect mc.is_while (mc.expect mc.is_open_parenthesis (comma true (λ x. mc.expect mc.is_close_parenthesis (mc.ended (to (Tree.DoWhile body x)))))))
       (word w.While d ∷ (mark m.OpenParenthesis f ∷ ((v ++ (mark m.CloseParenthesis j ∷ z)) ++ ts))) refl refl)
-      (placed (comma true (λ x. mc.expect mc.is_close_parenthesis (λ r. to (Tree.DoWhile s x) (mc.ended r)))) (append_assoc v (mark m.CloseParenthesis j ∷ z) ts)
-      (onwards (read-comma (known dx) (lit≤ tt) (λ x. mc.expect mc.is_close_parenthesis (λ r. to (Tree.DoWhile s x) (mc.ended r))) (mark m.CloseParenthesis j ∷ (z ++ ts)) (lit< tt))
-      (same (ap (to (Tree.DoWhile s x)) (ended-read ends ts h)))))))
-  statement-read (g.while {u = u} {v = v} {x = x} b d f dx ds) to ts h may =
-      then_on (placed (comma true (λ x. mc.expect mc.is_close_parenthesis (statement (λ body r. to (Tree.While x body) r)))) (append_assoc u (mark m.CloseParenthesis f ∷ v) ts)
-      (onwards (read-comma (known dx) (lit≤ tt) (λ x. mc.expect mc.is_close_parenthesis (statement (λ body r. to (Tree.While x body) r))) (mark m.CloseParenthesis f ∷ (v ++ ts)) (lit< tt))
+      (placed (comma true (λ x. mc.expect mc.is_close_parenthesis (mc.ended (to (Tree.DoWhile s x))))) (append_assoc v (mark m.CloseParenthesis j ∷ z) ts)
+      (onwards (read-comma (known dx) (lit≤ tt) (λ x. mc.expect mc.is_close_parenthesis (mc.ended (to (Tree.DoWhile s x)))) (mark m.CloseParenthesis j ∷ (z ++ ts)) (lit< tt))
+      (same (ended-read ends (to (Tree.DoWhile s x)) ts h))))))
+  statement-read {form = form} {c = c} (g.while {u = u} {v = v} {x = x} b d f dx ds) to ts h may =
+      then_on (placed (comma true (λ x. mc.expect mc.is_close_parenthesis (statement (context.loop c) (λ body r. to (Tree.While x body) r)))) (append_assoc u (mark m.CloseParenthesis f ∷ v) ts)
+      (onwards (read-comma (known dx) (lit≤ tt) (λ x. mc.expect mc.is_close_parenthesis (statement (context.loop c) (λ body r. to (Tree.While x body) r))) (mark m.CloseParenthesis f ∷ (v ++ ts)) (lit< tt))
       (statement-read ds (λ body r. to (Tree.While x body) r) ts h may)))
-  statement-read {form = form} (g.for {u = u} {v = v} {z = z} {body = body} {init = init} {test = test} {step = last} {s = s} b d f j o di dt dn ds) to ts h may =
-      then_on (placed (mc.for_header to) (append_assoc u (mark m.Semicolon f ∷ (v ++ (mark m.Semicolon j ∷ (z ++ (mark m.CloseParenthesis o ∷ body))))) ts)
-      (first-read di to f ((v ++ (mark m.Semicolon j ∷ (z ++ (mark m.CloseParenthesis o ∷ body)))) ++ ts) (for-read form v z body ts test last s init j o f to (optional-read dt) (optional-read dn) (λ to. statement-read ds to ts h may))))
-  statement-read (g.for_in {u = u} {v = v} {body = body} {x = x} b d f j dx target dy ds) to ts h may =
-      then_on (placed (mc.for_header to) (append_assoc u (word w.In f ∷ (v ++ (mark m.CloseParenthesis j ∷ body))) ts)
-      (told (mc.for_header to) (comma false (λ x r. mc.for_expression x to r)) u (word w.In f ∷ ((v ++ (mark m.CloseParenthesis j ∷ body)) ++ ts)) (expression-starts dx) (λ s rs h. header-start to s rs s.kind h)
-      (onwards (read-comma (known dx) (lit≤ tt) (λ x r. mc.for_expression x to r) (word w.In f ∷ ((v ++ (mark m.CloseParenthesis j ∷ body)) ++ ts)) (lit< tt))
-      (placed (comma true (λ y. mc.expect mc.is_close_parenthesis (statement (λ body r. to (Tree.ForIn (Tree.Target x) y body) r)))) (append_assoc v (mark m.CloseParenthesis j ∷ body) ts)
-      (onwards (read-comma (known dy) (lit≤ tt) (λ y. mc.expect mc.is_close_parenthesis (statement (λ body r. to (Tree.ForIn (Tree.Target x) y body) r))) (mark m.CloseParenthesis j ∷ (body ++ ts)) (lit< tt))
-      (statement-read ds (λ body r. to (Tree.ForIn (Tree.Target x) _ body) r) ts h may))))))
-  statement-read (g.for_var_in {n = n} {u = u} {v = v} {body = body} {value = value} {y = y} b d f j o dx dy ds) to ts h may =
-      then_on (placed (declarator false (λ n value r. mc.for_var n value to r)) (append_assoc u (word w.In j ∷ (v ++ (mark m.CloseParenthesis o ∷ body))) ts)
-      (onwards (declarator-read dx (λ n value r. mc.for_var n value to r) (word w.In j ∷ ((v ++ (mark m.CloseParenthesis o ∷ body)) ++ ts)) (in-declared u j value))
-      (placed (comma true (λ y. mc.expect mc.is_close_parenthesis (statement (λ body r. to (Tree.ForIn (Tree.AVar n value) y body) r)))) (append_assoc v (mark m.CloseParenthesis o ∷ body) ts)
-      (onwards (read-comma (known dy) (lit≤ tt) (λ y. mc.expect mc.is_close_parenthesis (statement (λ body r. to (Tree.ForIn (Tree.AVar n value) y body) r))) (mark m.CloseParenthesis o ∷ (body ++ ts)) (lit< tt))
+  statement-read {form = form} {c = c} (g.for {u = u} {v = v} {z = z} {body = body} {init = init} {test = test} {step = last} {s = s} b d f j o di dt dn ds) to ts h may =
+      then_on (placed (mc.for_header (context.loop c) to) (append_assoc u (mark m.Semicolon f ∷ (v ++ (mark m.Semicolon j ∷ (z ++ (mark m.CloseParenthesis o ∷ body))))) ts)
+      (first-read di (context.loop c) to f ((v ++ (mark m.Semicolon j ∷ (z ++ (mark m.CloseParenthesis o ∷ body)))) ++ ts) (for-read form (context.loop c) v z body ts test last s init j o f to (optional-read dt) (optional-read dn) (λ to. statement-read ds to ts h may))))
+  statement-read {form = form} {c = c} (g.for_in {u = u} {v = v} {body = body} {x = x} b d f j dx target dy ds) to ts h may =
+      then_on (placed (mc.for_header (context.loop c) to) (append_assoc u (word w.In f ∷ (v ++ (mark m.CloseParenthesis j ∷ body))) ts)
+      (told (mc.for_header (context.loop c) to) (comma false (λ x r. mc.for_expression (context.loop c) x to r)) u (word w.In f ∷ ((v ++ (mark m.CloseParenthesis j ∷ body)) ++ ts)) (expression-starts dx) (λ s rs h. header-start (context.loop c) to s rs s.kind h)
+      (onwards (read-comma (known dx) (lit≤ tt) (λ x r. mc.for_expression (context.loop c) x to r) (word w.In f ∷ ((v ++ (mark m.CloseParenthesis j ∷ body)) ++ ts)) (lit< tt))
+      (allowed target (placed (comma true (λ y. mc.expect mc.is_close_parenthesis (statement (context.loop c) (λ body r. to (Tree.ForIn (Tree.Target x) y body) r)))) (append_assoc v (mark m.CloseParenthesis j ∷ body) ts)
+      (onwards (read-comma (known dy) (lit≤ tt) (λ y. mc.expect mc.is_close_parenthesis (statement (context.loop c) (λ body r. to (Tree.ForIn (Tree.Target x) y body) r))) (mark m.CloseParenthesis j ∷ (body ++ ts)) (lit< tt))
+      (statement-read ds (λ body r. to (Tree.ForIn (Tree.Target x) _ body) r) ts h may)))))))
+  statement-read {form = form} {c = c} (g.for_var_in {n = n} {u = u} {v = v} {body = body} {value = value} {y = y} b d f j o dx dy ds) to ts h may =
+      then_on (placed (declarator false (λ n value r. mc.for_var (context.loop c) n value to r)) (append_assoc u (word w.In j ∷ (v ++ (mark m.CloseParenthesis o ∷ body))) ts)
+      (onwards (declarator-read dx (λ n value r. mc.for_var (context.loop c) n value to r) (word w.In j ∷ ((v ++ (mark m.CloseParenthesis o ∷ body)) ++ ts)) (in-declared u j value))
+      (placed (comma true (λ y. mc.expect mc.is_close_parenthesis (statement (context.loop c) (λ body r. to (Tree.ForIn (Tree.AVar n value) y body) r)))) (append_assoc v (mark m.CloseParenthesis o ∷ body) ts)
+      (onwards (read-comma (known dy) (lit≤ tt) (λ y. mc.expect mc.is_close_parenthesis (statement (context.loop c) (λ body r. to (Tree.ForIn (Tree.AVar n value) y body) r))) (mark m.CloseParenthesis o ∷ (body ++ ts)) (lit< tt))
       (statement-read ds (λ body r. to (Tree.ForIn (Tree.AVar n value) y body) r) ts h may)))))
-  statement-read (g.continue b o ends) to ts h may = then_on (same (jump-read ends Tree.Continue to ts h))
-  statement-read (g.continue_to {n = n} b r o ends) to ts h may = then_on (same (ap (to (Tree.Continue (Some n))) (ended-read ends ts h)))
-  statement-read (g.break b o ends) to ts h may = then_on (same (jump-read ends Tree.Break to ts h))
-  statement-read (g.break_from {n = n} b r o ends) to ts h may = then_on (same (ap (to (Tree.Break (Some n))) (ended-read ends ts h)))
-  statement-read (g.return b o ends) to ts h may = then_on (same (return-read ends to ts h))
-  statement-read {form = form} (g.return_value {next = next} {u = u} {v = v} {x = x} b o dx line ends) to ts h may =
+  statement-read {form = form} {c = c} (g.continue {u = u} b o ends) to ts h may =
+      then_on (allowed (ap (λ a. a || mc.are_some c.loops) o) (from (ap (λ a. mc.jump form a c.loops Tree.Continue to (u ++ ts)) o) (same (jump-read form ends c.loops Tree.Continue to ts h))))
+  statement-read {form = form} {c = c} (g.continue_to {n = n} b r o ends) to ts h may =
+      then_on (allowed (either c.in_loop (mc.are_some c.loops) (among-some n c.loops o))
+      (allowed (both (is_reference form n) (is_among n c.loops) r o) (same (ended-read ends (to (Tree.Continue (Some n))) ts h))))
+  statement-read {form = form} {c = c} (g.break {u = u} b o ends) to ts h may =
+      then_on (allowed (ap (λ a. a || mc.are_some c.labels) o) (from (ap (λ a. mc.jump form a c.labels Tree.Break to (u ++ ts)) o) (same (jump-read form ends c.labels Tree.Break to ts h))))
+  statement-read {form = form} {c = c} (g.break_from {n = n} b r o ends) to ts h may =
+      then_on (allowed (either (context.may_break c) (mc.are_some c.labels) (among-some n c.labels o))
+      (allowed (both (is_reference form n) (is_among n c.labels) r o) (same (ended-read ends (to (Tree.Break (Some n))) ts h))))
+  statement-read (g.return b o ends) to ts h may = then_on (allowed o (same (return-read ends to ts h)))
+  statement-read {form = form} {c = c} (g.return_value {next = next} {u = u} {v = v} {x = x} b o dx line ends) to ts h may =
       let s = expression-starts dx in
-      then_on (placed (mc.returned to) (append_assoc u v ts)
+      then_on (allowed o (placed (mc.returned to) (append_assoc u v ts)
       (subst (λ w. Goes form (mc.returned to (w ++ (v ++ ts))) (to (Tree.Return (Tree.AnExpr x)) ts)) (sym s.are)
       (from (ap (λ newline. mc.return_by newline s.head.kind to s.head (s.others ++ (v ++ ts))) (sym (ap (λ t. (first t next).newline) s.are) ∙ line) ∙ return-start to s.head (s.others ++ (v ++ ts)) s.head.kind s.passes)
-      (subst (λ w. Goes form (comma true (λ x r. to (Tree.Return (Tree.AnExpr x)) (mc.ended r)) (w ++ (v ++ ts))) (to (Tree.Return (Tree.AnExpr x)) ts)) s.are
-      (onwards (read-comma (known dx) (lit≤ tt) (λ x r. to (Tree.Return (Tree.AnExpr x)) (mc.ended r)) (v ++ ts) (ends-follow u ends ts h)) (same (ap (to (Tree.Return (Tree.AnExpr x))) (ended-read ends ts h))))))))
-  statement-read (g.switch {u = u} {v = v} {x = x} b d f j o dx dcs) to ts h may =
-      then_on (placed (comma true (λ x. mc.expect mc.is_close_parenthesis (mc.expect mc.is_open_brace (clauses (λ cs. mc.expect mc.is_close_brace (to (Tree.Switch x cs)))))))
+      (subst (λ w. Goes form (comma true (λ x r. mc.ended (to (Tree.Return (Tree.AnExpr x))) r) (w ++ (v ++ ts))) (to (Tree.Return (Tree.AnExpr x)) ts)) s.are
+      (onwards (read-comma (known dx) (lit≤ tt) (λ x r. mc.ended (to (Tree.Return (Tree.AnExpr x))) r) (v ++ ts) (ends-follow u ends ts h)) (same (ended-read ends (to (Tree.Return (Tree.AnExpr x))) ts h))))))))
+  statement-read {form = form} {c = c} (g.switch {u = u} {v = v} {x = x} b d f j o dx dcs) to ts h may =
+      then_on (placed (comma true (λ x. mc.expect mc.is_close_parenthesis (mc.expect mc.is_open_brace (clauses (context.clause c) true (λ cs. mc.expect mc.is_close_brace (to (Tree.Switch x cs)))))))
       (append_assoc u (mark m.CloseParenthesis f ∷ (mark m.OpenBrace j ∷ (v ++ (mark m.CloseBrace o ∷ [])))) ts)
-      (onwards (read-comma (known dx) (lit≤ tt) (λ x. mc.expect mc.is_close_parenthesis (mc.expect mc.is_open_brace (clauses (λ cs. mc.expect mc.is_close_brace (to (Tree.Switch x cs))))))
+      (onwards (read-comma (known dx) (lit≤ tt) (λ x. mc.expect mc.is_close_parenthesis (mc.expect mc.is_open_brace (clauses (context.clause c) true (λ cs. mc.expect mc.is_close_brace (to (Tree.Switch x cs))))))
       (mark m.CloseParenthesis f ∷ (mark m.OpenBrace j ∷ ((v ++ (mark m.CloseBrace o ∷ [])) ++ ts))) (lit< tt))
-      (placed (clauses (λ cs. mc.expect mc.is_close_brace (to (Tree.Switch x cs)))) (append_assoc v (mark m.CloseBrace o ∷ []) ts)
+      (placed (clauses (context.clause c) true (λ cs. mc.expect mc.is_close_brace (to (Tree.Switch x cs)))) (append_assoc v (mark m.CloseBrace o ∷ []) ts)
       (clauses-read dcs (λ cs. mc.expect mc.is_close_brace (to (Tree.Switch x cs))) (mark m.CloseBrace o ∷ ts) refl refl))))
-  statement-read (g.label {n = n} b d r away ds) to ts h may = then_on (statement-read ds (λ body r. to (Tree.Label n body) r) ts h may)
-  statement-read (g.throw {u = u} {v = v} {x = x} b dx line ends) to ts h may =
-      then_on (placed (comma true (λ x r. to (Tree.Throw x) (mc.ended r))) (append_assoc u v ts)
-      (onwards (read-comma (known dx) (lit≤ tt) (λ x r. to (Tree.Throw x) (mc.ended r)) (v ++ ts) (ends-follow u ends ts h)) (same (ap (to (Tree.Throw x)) (ended-read ends ts h)))))
-  statement-read (g.try_catch {next = next} {n = n} {u = u} {v = v} {s = s} {handler = z} b d f j o ds r dz) to ts h may =
-      then_on (placed (statement (λ block r. mc.after_try block to r)) (append_assoc u (word w.Catch d ∷ (mark m.OpenParenthesis f ∷ (name n j ∷ (mark m.CloseParenthesis o ∷ v)))) ts)
-      (onwards (block-read ds (λ block r. mc.after_try block to r) (word w.Catch d ∷ (mark m.OpenParenthesis f ∷ (name n j ∷ (mark m.CloseParenthesis o ∷ (v ++ ts))))))
-      (onwards (block-read dz (λ caught r. mc.after_catch s (Tree.ACatch n caught) to r) ts)
-      (same (finally-stop s (Tree.ACatch n z) to ts (λ e. not-finally next.kind may (sym (ap (λ s. s.kind) h) ∙ e)))))))
-  statement-read (g.try_finally {u = u} {v = v} {s = s} b d ds dz) to ts h may =
-      then_on (placed (statement (λ block r. mc.after_try block to r)) (append_assoc u (word w.Finally d ∷ v) ts)
-      (onwards (block-read ds (λ block r. mc.after_try block to r) (word w.Finally d ∷ (v ++ ts))) (block-read dz (λ last r. to (Tree.Try s Tree.NoHandler (Tree.AStmt last)) r) ts)))
-  statement-read (g.try_catch_finally {n = n} {u = u} {v = v} {z = z} {s = s} {handler = y} b d f j o p ds r dy dz) to ts h may =
-      then_on (placed (statement (λ block r. mc.after_try block to r)) (append_assoc u (word w.Catch d ∷ (mark m.OpenParenthesis f ∷ (name n j ∷ (mark m.CloseParenthesis o ∷ (v ++ (word w.Finally p ∷ z)))))) ts)
-      (onwards (block-read ds (λ block r. mc.after_try block to r) (word w.Catch d ∷ (mark m.OpenParenthesis f ∷ (name n j ∷ (mark m.CloseParenthesis o ∷ ((v ++ (word w.Finally p ∷ z)) ++ ts))))))
-      (placed (statement (λ caught r. mc.after_catch s (Tree.ACatch n caught) to r)) (append_assoc v (word w.Finally p ∷ z) ts)
-      (onwards (block-read dy (λ caught r. mc.after_catch s (Tree.ACatch n caught) to r) (word w.Finally p ∷ (z ++ ts)))
-      (block-read dz (λ last r. to (Tree.Try s (Tree.ACatch n y) (Tree.AStmt last)) r) ts)))))
+  statement-read {form = form} {c = c} (g.label {n = n} b d r away ds) to ts h may = then_on (allowed (both (is_reference form n) (not (is_among n c.labels)) r (ap not away)) (statement-read ds (λ body r. to (Tree.Label n body) r) ts h may))
+  statement-read {form = form} {c = c} (g.throw {next = next} {u = u} {v = v} {x = x} b dx line ends) to ts h may =
+      let s = expression-starts dx in
+      then_on (placed (mc.thrown to) (append_assoc u v ts)
+      (subst (λ w. Goes form (mc.thrown to (w ++ (v ++ ts))) (to (Tree.Throw x) ts)) (sym s.are)
+      (allowed (ap not (sym (ap (λ t. (first t next).newline) s.are) ∙ line))
+      (subst (λ w. Goes form (comma true (λ x r. mc.ended (to (Tree.Throw x)) r) (w ++ (v ++ ts))) (to (Tree.Throw x) ts)) s.are
+      (onwards (read-comma (known dx) (lit≤ tt) (λ x r. mc.ended (to (Tree.Throw x)) r) (v ++ ts) (ends-follow u ends ts h)) (same (ended-read ends (to (Tree.Throw x)) ts h)))))))
+  statement-read {form = form} {c = c} (g.try_catch {next = next} {n = n} {u = u} {v = v} {s = s} {handler = z} b d f j o ds r dz) to ts h may =
+      then_on (placed (mc.block (context.part c) (λ block r. mc.after_try form (context.part c) block to r)) (append_assoc u (word w.Catch d ∷ (mark m.OpenParenthesis f ∷ (name n j ∷ (mark m.CloseParenthesis o ∷ v)))) ts)
+      (onwards (block-read ds (λ block r. mc.after_try form (context.part c) block to r) (word w.Catch d ∷ (mark m.OpenParenthesis f ∷ (name n j ∷ (mark m.CloseParenthesis o ∷ (v ++ ts))))))
+      (allowed r (onwards (block-read dz (λ caught r. mc.after_catch (context.part c) s (Tree.ACatch n caught) to r) ts)
+      (same (finally-stop (context.part c) s (Tree.ACatch n z) to ts (λ e. not-finally next.kind may (sym (ap (λ s. s.kind) h) ∙ e))))))))
+  statement-read {form = form} {c = c} (g.try_finally {u = u} {v = v} {s = s} b d ds dz) to ts h may =
+      then_on (placed (mc.block (context.part c) (λ block r. mc.after_try form (context.part c) block to r)) (append_assoc u (word w.Finally d ∷ v) ts)
+      (onwards (block-read ds (λ block r. mc.after_try form (context.part c) block to r) (word w.Finally d ∷ (v ++ ts))) (block-read dz (λ last r. to (Tree.Try s Tree.NoHandler (Tree.AStmt last)) r) ts)))
+  statement-read {form = form} {c = c} (g.try_catch_finally {n = n} {u = u} {v = v} {z = z} {s = s} {handler = y} b d f j o p ds r dy dz) to ts h may =
+      then_on (placed (mc.block (context.part c) (λ block r. mc.after_try form (context.part c) block to r)) (append_assoc u (word w.Catch d ∷ (mark m.OpenParenthesis f ∷ (name n j ∷ (mark m.CloseParenthesis o ∷ (v ++ (word w.Finally p ∷ z)))))) ts)
+      (onwards (block-read ds (λ block r. mc.after_try form (context.part c) block to r) (word w.Catch d ∷ (mark m.OpenParenthesis f ∷ (name n j ∷ (mark m.CloseParenthesis o ∷ ((v ++ (word w.Finally p ∷ z)) ++ ts))))))
+      (allowed r (placed (mc.block (context.part c) (λ caught r. mc.after_catch (context.part c) s (Tree.ACatch n caught) to r)) (append_assoc v (word w.Finally p ∷ z) ts)
+      (onwards (block-read dy (λ caught r. mc.after_catch (context.part c) s (Tree.ACatch n caught) to r) (word w.Finally p ∷ (z ++ ts)))
+      (block-read dz (λ last r. to (Tree.Try s (Tree.ACatch n y) (Tree.AStmt last)) r) ts))))))
 
   list-read : {form : Form} {c : Context} {u : Symbols} {next : Symbol} {ss : Stmts} → StatementList form c u next ss → (to : To Stmts) (ts : Symbols) → front ts ≡ next → stops next.kind ≡ true
-      → Goes form (list to (u ++ ts)) (to ss ts)
-  list-read g.no_statement to ts h last = list-stop to ts (ap (λ s. stops s.kind) h ∙ last)
-  list-read (g.statement_and {next = next} {u = u} {v = v} {s = s} d ds) to ts h last =
-      placed (list to) (append_assoc u v ts)
-      (beginning (list to) (statement (λ x r. list (λ xs o. to (Tree.MoreStmts x xs) o) r)) u (v ++ ts) (statement-starts d) (λ x rs h. list-start to x rs x.kind h)
-      (onwards (statement-read d (λ x r. list (λ xs o. to (Tree.MoreStmts x xs) o) r) (v ++ ts) (front-join v ts next h) (list-may ds last))
+      → Goes form (list c to (u ++ ts)) (to ss ts)
+  list-read g.no_statement to ts h last = list-stop _ to ts (ap (λ s. stops s.kind) h ∙ last)
+  list-read {c = c} (g.statement_and {next = next} {u = u} {v = v} {s = s} d ds) to ts h last =
+      placed (list c to) (append_assoc u v ts)
+      (beginning (list c to) (statement c (λ x r. list c (λ xs o. to (Tree.MoreStmts x xs) o) r)) u (v ++ ts) (statement-starts d) (λ x rs h. list-start c to x rs x.kind h)
+      (onwards (statement-read d (λ x r. list c (λ xs o. to (Tree.MoreStmts x xs) o) r) (v ++ ts) (front-join v ts next h) (list-may ds last))
       (list-read ds (λ xs o. to (Tree.MoreStmts s xs) o) ts h last)))
 
   clauses-read : {form : Form} {c : Context} {may : Bool} {u : Symbols} {next : Symbol} {cs : Cases} → CaseClauses form c may u next cs → (to : To Cases) (ts : Symbols) → front ts ≡ next → closes next.kind ≡ true
-      → Goes form (clauses to (u ++ ts)) (to cs ts)
-  clauses-read {next = next} g.no_clause to ts h last = clauses-end to ts (ap (λ s. closes s.kind) h ∙ last)
-  clauses-read (g.case_and {next = next} {u = u} {v = v} {z = z} {x = x} {ss = ss} b d dx ds dcs) to ts h last =
-      then_on (placed (comma true (λ x. mc.expect mc.is_colon (list (λ ss r. clauses (λ cs o. to (Tree.MoreCases (Tree.AnExpr x) ss cs) o) r)))) (append_assoc u (mark m.Colon d ∷ (v ++ z)) ts)
-      (onwards (read-comma (known dx) (lit≤ tt) (λ x. mc.expect mc.is_colon (list (λ ss r. clauses (λ cs o. to (Tree.MoreCases (Tree.AnExpr x) ss cs) o) r))) (mark m.Colon d ∷ ((v ++ z) ++ ts)) (lit< tt))
-      (placed (list (λ ss r. clauses (λ cs o. to (Tree.MoreCases (Tree.AnExpr x) ss cs) o) r)) (append_assoc v z ts)
-      (onwards (list-read ds (λ ss r. clauses (λ cs o. to (Tree.MoreCases (Tree.AnExpr x) ss cs) o) r) (z ++ ts) (front-join z ts next h) (clauses-stop dcs (closes-stop next.kind last)))
+      → Goes form (clauses c may to (u ++ ts)) (to cs ts)
+  clauses-read {next = next} g.no_clause to ts h last = clauses-end _ _ to ts (ap (λ s. closes s.kind) h ∙ last)
+  clauses-read {c = c} {may = may} (g.case_and {next = next} {u = u} {v = v} {z = z} {x = x} {ss = ss} b d dx ds dcs) to ts h last =
+      then_on (placed (comma true (λ x. mc.expect mc.is_colon (list c (λ ss r. clauses c may (λ cs o. to (Tree.MoreCases (Tree.AnExpr x) ss cs) o) r)))) (append_assoc u (mark m.Colon d ∷ (v ++ z)) ts)
+      (onwards (read-comma (known dx) (lit≤ tt) (λ x. mc.expect mc.is_colon (list c (λ ss r. clauses c may (λ cs o. to (Tree.MoreCases (Tree.AnExpr x) ss cs) o) r))) (mark m.Colon d ∷ ((v ++ z) ++ ts)) (lit< tt))
+      (placed (list c (λ ss r. clauses c may (λ cs o. to (Tree.MoreCases (Tree.AnExpr x) ss cs) o) r)) (append_assoc v z ts)
+      (onwards (list-read ds (λ ss r. clauses c may (λ cs o. to (Tree.MoreCases (Tree.AnExpr x) ss cs) o) r) (z ++ ts) (front-join z ts next h) (clauses-stop dcs (closes-stop next.kind last)))
       (clauses-read dcs (λ cs o. to (Tree.MoreCases (Tree.AnExpr x) ss cs) o) ts h last)))))
-  clauses-read (g.default_and {next = next} {v = v} {z = z} {ss = ss} b d ds dcs) to ts h last =
-      then_on (placed (list (λ ss r. clauses (λ cs o. to (Tree.MoreCases Tree.NoExpr ss cs) o) r)) (append_assoc v z ts)
-      (onwards (list-read ds (λ ss r. clauses (λ cs o. to (Tree.MoreCases Tree.NoExpr ss cs) o) r) (z ++ ts) (front-join z ts next h) (clauses-stop dcs (closes-stop next.kind last)))
+  clauses-read {c = c} (g.default_and {next = next} {v = v} {z = z} {ss = ss} b d ds dcs) to ts h last =
+      then_on (placed (list c (λ ss r. clauses c false (λ cs o. to (Tree.MoreCases Tree.NoExpr ss cs) o) r)) (append_assoc v z ts)
+      (onwards (list-read ds (λ ss r. clauses c false (λ cs o. to (Tree.MoreCases Tree.NoExpr ss cs) o) r) (z ++ ts) (front-join z ts next h) (clauses-stop dcs (closes-stop next.kind last)))
       (clauses-read dcs (λ cs o. to (Tree.MoreCases Tree.NoExpr ss cs) o) ts h last)))
 
   pub source-read : {form : Form} {c : Context} {u : Symbols} {next : Symbol} {ss : Stmts} → SourceElements form c u next ss → (to : To Stmts) (ts : Symbols) → front ts ≡ next → closes next.kind ≡ true
-      → Goes form (source to (u ++ ts)) (to ss ts)
-  source-read g.no_source to ts h last = source-stop to ts (ap (λ s. closes s.kind) h ∙ last)
-  source-read (g.source_and {next = next} {u = u} {v = v} {s = s} (g.statement d) ds) to ts h last =
-      placed (source to) (append_assoc u v ts)
-      (beginning (source to) (statement (λ x r. source (λ xs o. to (Tree.MoreStmts x xs) o) r)) u (v ++ ts) (statement-starts d) (λ x rs h. source-start to x rs x.kind h)
-      (onwards (statement-read d (λ x r. source (λ xs o. to (Tree.MoreStmts x xs) o) r) (v ++ ts) (front-join v ts next h) (source-may ds last))
+      → Goes form (source c to (u ++ ts)) (to ss ts)
+  source-read g.no_source to ts h last = source-stop _ to ts (ap (λ s. closes s.kind) h ∙ last)
+  source-read {form = form} {c = c} (g.source_and {next = next} {u = u} {v = v} {s = s} (g.statement d) ds) to ts h last =
+      placed (source c to) (append_assoc u v ts)
+      (beginning (source c to) (statement c (λ x r. source c (λ xs o. to (Tree.MoreStmts x xs) o) r)) u (v ++ ts) (statement-starts d) (λ x rs h. source-start form c to x rs x.kind h)
+      (onwards (statement-read d (λ x r. source c (λ xs o. to (Tree.MoreStmts x xs) o) r) (v ++ ts) (front-join v ts next h) (source-may ds last))
       (source-read ds (λ xs o. to (Tree.MoreStmts s xs) o) ts h last)))
-  source-read (g.source_and {next = next} {v = v} (g.declaration {n = n} {u = u} {ns = ns} {body = body} b d r f) ds) to ts h last =
-      then_on (placed (rest (λ ns body r. source (λ xs o. to (Tree.MoreStmts (Tree.Declare (code (Some n) ns body)) xs) o) r)) (append_assoc u v ts)
-      (onwards (rest-read f (λ ns body r. source (λ xs o. to (Tree.MoreStmts (Tree.Declare (code (Some n) ns body)) xs) o) r) (v ++ ts))
-      (source-read ds (λ xs o. to (Tree.MoreStmts (Tree.Declare (code (Some n) ns body)) xs) o) ts h last)))
+  source-read {form = form} {c = c} (g.source_and {next = next} {v = v} (g.declaration {n = n} {u = u} {ns = ns} {body = body} b d r f) ds) to ts h last =
+      then_on (allowed r (placed (rest (λ ns body r. source c (λ xs o. to (Tree.MoreStmts (Tree.Declare (code (Some n) ns body)) xs) o) r)) (append_assoc u v ts)
+      (onwards (rest-read f (λ ns body r. source c (λ xs o. to (Tree.MoreStmts (Tree.Declare (code (Some n) ns body)) xs) o) r) (v ++ ts))
+      (source-read ds (λ xs o. to (Tree.MoreStmts (Tree.Declare (code (Some n) ns body)) xs) o) ts h last))))
 
 abbrev body_of : State → Stmts
 body_of (done ss ts) = ss
@@ -394,15 +405,15 @@ body_of _ = Tree.NoStmts
 pub one_tree : (form : Form) (tokens : Symbols) (tree other : Tree.Script) → Derives form tokens tree → Derives form tokens other → tree ≡ other
 one_tree form tokens tree other d e =
     ap body_of (one_end refl refl
-    (placed (source done) d.whole (source-read d.derived done (end d.newline ∷ []) refl refl))
-    (placed (source done) e.whole (source-read e.derived done (end e.newline ∷ []) refl refl)))
+    (placed mc.script d.whole (source-read d.derived mc.finished (end d.newline ∷ []) refl refl))
+    (placed mc.script e.whole (source-read e.derived mc.finished (end e.newline ∷ []) refl refl)))
 
 abbrev is_done : State → Bool
 is_done (done ss ts) = true
 is_done _ = false
 
 -- what the machine is stuck at within some steps, whatever follows, begins no script
-pub never : (form : Form) (functions : ℕ) (used : Symbols) (n : ℕ) → ((more : Symbols) → mc.run form n (source done (used ++ more)) ≡ stuck) → Begins form functions used → ⊥
+pub never : (form : Form) (functions : ℕ) (used : Symbols) (n : ℕ) → ((more : Symbols) → mc.run form n (mc.script (used ++ more)) ≡ stuck) → Begins form functions used → ⊥
 never form functions used n h b = let d = b.unlimited.derives in
-    let e = ap is_done (one_end refl refl (placed (source done) d.whole (source-read d.derived done (end d.newline ∷ []) refl refl))
-    (subst (λ s. Goes form (source done (used ++ b.more)) s) (h b.more) (mc.runs form n (source done (used ++ b.more))))) in cc
+    let e = ap is_done (one_end refl refl (placed mc.script d.whole (source-read d.derived mc.finished (end d.newline ∷ []) refl refl))
+    (subst (λ s. Goes form (mc.script (used ++ b.more)) s) (h b.more) (mc.runs form n (mc.script (used ++ b.more))))) in cc
