@@ -17,3 +17,5 @@ pub mod OneTree
 pub mod NoFault
 pub mod MachineSteps
 pub mod BrokenLimits
+pub mod TextRowLemmas
+pub mod texts

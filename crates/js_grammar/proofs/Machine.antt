@@ -189,9 +189,14 @@ tail_by None i least x next s ts = next x (s ∷ ts)
 tail_by (Some op) i least x next s ts =
     if nat_le least (level op) && may_operate i op then climb i (suc (level op)) (λ y r. tail i least (joined op x y) next r) ts else next x (s ∷ ts)
 
+-- `++` and `--` stand before a target, the others before any operand
+abbrev pub prefix_by : Bool → PrefixOp → To Expr → Symbols → State
+prefix_by true op next ts = operand true (λ x r. guard (is_target x) (next (Tree.Prefix op x) r)) ts
+prefix_by false op next ts = unary (λ x r. next (Tree.Prefix op x) r) ts
+
 abbrev pub unary_by : Option PrefixOp → To Expr → Symbol → Symbols → State
 unary_by None next s ts = operand true (λ x r. postfix x next r) (s ∷ ts)
-unary_by (Some op) next s ts = unary (λ x r. guard (not (changes op) || is_target x) (next (Tree.Prefix op x) r)) ts
+unary_by (Some op) next s ts = prefix_by (changes op) op next ts
 
 abbrev pub postfix_by : TokenKind → Bool → Expr → To Expr → Symbol → Symbols → State
 postfix_by (k.Mark m.PlusPlus) false x next s ts = guard (is_target x) (next (Tree.Postfix x q.Increment) ts)

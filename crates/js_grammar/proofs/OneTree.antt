@@ -8,7 +8,7 @@ use Rattle.js_tree.specs.Tree.{Name, Expr, Exprs, MaybeExpr, Elements, Pairs, St
 use Rattle.js_tree.specs.Tree
 use Rattle.js_grammar.specs.declared.form.Form.{Form}
 use Rattle.js_grammar.specs.Symbols.{Symbol, Symbols, of_kind, word, mark, name, first, end}
-use Rattle.js_grammar.specs.Operators.{joined, sign, level, prefix_sign, postfix_sign, changes, is_target}
+use Rattle.js_grammar.specs.Operators.{joined, sign, level, prefix_sign, postfix_sign, is_target}
 use Rattle.js_grammar.specs.Contexts.{Context}
 use Rattle.js_grammar.specs.Contexts as context
 use Rattle.js_grammar.specs.Ends.{ends_changed, kind_reach}
@@ -114,16 +114,15 @@ mutual
       (stepped (post-step op x next (of_kind (postfix_sign op) false) ts target) here))))))
   known {form = form} {i = i} {l = l} (g.prefix {u = u} {x = x} op a h n dx) =
       by-unary form i l _ _ (omega arith) (λ next ts reaches.
-      stepped (ap (λ o. mc.unary_by o next (of_kind (prefix_sign op) a) (u ++ ts)) (prefixed op))
-      (onwards ((known dx).unary_is (lit≤ tt) (λ x r. mc.guard (not (changes op) || is_target x) (next (Tree.Prefix op x) r)) ts
-      (let e = same-reach-of (of_kind (prefix_sign op) a ∷ u) u (front ts) (last-of [] (of_kind (prefix_sign op) a) u (expression-tokens dx)) in omega (arith, e, reaches)))
-      (allowed (ap (λ a. not a || is_target x) n) here)))
+      stepped (ap (λ o. mc.unary_by o next (of_kind (prefix_sign op) a) (u ++ ts)) (prefixed op) ∙ ap (λ c. mc.prefix_by c op next (u ++ ts)) n)
+      ((known dx).unary_is (lit≤ tt) (λ x r. next (Tree.Prefix op x) r) ts
+      (let e = same-reach-of (of_kind (prefix_sign op) a ∷ u) u (front ts) (last-of [] (of_kind (prefix_sign op) a) u (expression-tokens dx)) in omega (arith, e, reaches))))
   known {form = form} {i = i} {l = l} (g.changed {u = u} {x = x} op a h n dx target) =
       by-unary form i l _ _ (omega arith) (λ next ts reaches.
-      stepped (ap (λ o. mc.unary_by o next (of_kind (prefix_sign op) a) (u ++ ts)) (prefixed op))
-      (onwards ((known dx).unary_is (lit≤ tt) (λ x r. mc.guard (not (changes op) || is_target x) (next (Tree.Prefix op x) r)) ts
+      stepped (ap (λ o. mc.unary_by o next (of_kind (prefix_sign op) a) (u ++ ts)) (prefixed op) ∙ ap (λ c. mc.prefix_by c op next (u ++ ts)) n)
+      (onwards ((known dx).operand_is (lit≤ tt) (λ x r. mc.guard (is_target x) (next (Tree.Prefix op x) r)) ts
       (let e = same-reach-of (of_kind (prefix_sign op) a ∷ u) u (front ts) (last-of [] (of_kind (prefix_sign op) a) u (expression-tokens dx)) in omega (arith, e, reaches)))
-      (allowed (either (not (changes op)) (is_target x) target) here)))
+      (allowed target here)))
   known {form = form} {i = i} {l = l} (g.binary {u = u} {v = v} {x = x} {y = y} op a h may dx dy) = let high = level-high op in
       by-climb form i l _ _ (level op) h high.0 high.1 (λ c low le least next ts t within reaches d.
       let e = same-reach (u ++ (of_kind (sign op) a ∷ v)) v i (front ts) (last-of u (of_kind (sign op) a) v (expression-tokens dy)) in

@@ -12,6 +12,7 @@ pub mod Fault
 pub mod Printed
 pub mod PrintedText
 pub mod Rows
+pub mod TextRows
 pub mod WellPlaced
 pub mod Laws
 pub mod RefusedRows
