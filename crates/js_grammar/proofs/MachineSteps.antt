@@ -146,6 +146,7 @@ among-front n (o ∷ ns) others h = or-false (is_spelled n o) (is_among n ns) (n
   where
     not-or-left : (is_spelled n o || is_among n (ns ++ others)) ≡ false → is_spelled n o ≡ false
     not-or-left e = left-false (is_spelled n o) (is_among n (ns ++ others)) e
+
     not-or-right : (is_spelled n o || is_among n (ns ++ others)) ≡ false → is_among n (ns ++ others) ≡ false
     not-or-right e = right-false (is_spelled n o) (is_among n (ns ++ others)) e
 
