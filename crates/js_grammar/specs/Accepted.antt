@@ -10,8 +10,7 @@ use Rattle.js_grammar.specs.declared.form.Limits.{Limits}
 use Rattle.js_grammar.specs.Symbols.{Symbols, end, first}
 use Rattle.js_grammar.specs.Contexts as context
 use Rattle.js_grammar.specs.Grammar.{SourceElement, SourceElements}
-use Rattle.js_grammar.specs.Depth.{depth}
-use Rattle.js_grammar.specs.Nesting.{nesting}
+use Rattle.js_grammar.specs.Depth.{depth, nesting}
 
 -- The tokens, which the end closes, are a script with this tree (ES3 section 14).
 pub record Derives (form : Form) (tokens : Symbols) (tree : Script) : Type 0 where
@@ -48,9 +47,9 @@ most_open n (s ∷ ss) = max n (most_open (opened s.kind n) ss)
 
 -- the tokens and their tree keep the limits of depth, nesting and brackets
 pub record Keeps (limits : Limits) (tokens : Symbols) (tree : Script) : Type 0 where
-  pub deep_enough : depth tree ≤ limits.depth
-  pub nested_enough : nesting tree ≤ limits.nesting
-  pub open_enough : most_open 0 tokens ≤ limits.brackets
+  pub not_too_deep : depth tree ≤ limits.depth
+  pub not_too_nested : nesting tree ≤ limits.nesting
+  pub not_too_many_open : most_open 0 tokens ≤ limits.brackets
 
 -- ---- accepted
 
@@ -80,10 +79,3 @@ pub record IsOverAt (form : Form) (limits : Limits) (tokens : Symbols) (n : ℕ)
   pub few_functions : functions_in tokens ≤ limits.functions
   pub keeps_before : Keeps limits before trees
   pub breaks : Keeps limits element (MoreStmts tree NoStmts) → ⊥
-
--- the limits of a source script, and of a text of a site, with so many functions
-abbrev pub source_limits : ℕ → Limits
-source_limits functions = record { depth = 400; nesting = 64; brackets = 400; functions = functions }
-
-abbrev pub written_limits : ℕ → Limits
-written_limits functions = record { depth = 800; nesting = 66; brackets = 800; functions = functions }

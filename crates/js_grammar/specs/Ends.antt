@@ -9,14 +9,15 @@ use Rattle.js_lexer.specs.declared.token.TokenKind.TheVariants as k
 use Rattle.js_tree.specs.Tree.{VarItems, NoVarItems, MoreVarItems, MaybeExpr, NoExpr, AnExpr}
 use Rattle.js_grammar.specs.Symbols.{Symbol, Symbols, mark}
 
-abbrev pub changes : TokenKind → Bool
-changes (k.Mark m.PlusPlus) = true
-changes (k.Mark m.MinusMinus) = true
-changes _ = false
+-- `++` and `--`
+abbrev pub is_change : TokenKind → Bool
+is_change (k.Mark m.PlusPlus) = true
+is_change (k.Mark m.MinusMinus) = true
+is_change _ = false
 
 abbrev pub ends_from : Bool → Symbols → Bool
 ends_from b [] = b
-ends_from b (s ∷ ss) = ends_from (changes s.kind) ss
+ends_from b (s ∷ ss) = ends_from (is_change s.kind) ss
 
 -- The last token is `++` or `--`. Behind an expression it is then a postfix operator, since an operand follows a prefix operator.
 abbrev pub ends_changed : Symbols → Bool

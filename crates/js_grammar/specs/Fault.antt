@@ -1,5 +1,5 @@
 -- What may be told of tokens that are no accepted script.
-use Rattle.std.specs.Prelude.{ℕ, ◌≡◌, ◌&&◌, ◌||◌, nat_lt, Bool, true, false, List, [], ◌∷◌, ◌++◌, length, Option, Some, None, if◌then◌else◌}
+use Rattle.std.specs.Prelude.{ℕ, ◌≡◌, ◌&&◌, ◌||◌, nat_le, Bool, true, false, List, [], ◌∷◌, ◌++◌, length, Option, Some, None, if◌then◌else◌}
 use Rattle.dl_text.specs.declared.place.Place.{Place}
 use Rattle.js_lexer.specs.declared.mark.Mark.TheVariants as m
 use Rattle.js_lexer.specs.declared.word.Word.TheVariants as w
@@ -12,7 +12,7 @@ use Rattle.js_grammar.specs.declared.form.Form.{Form}
 use Rattle.js_grammar.specs.declared.form.Limits.{Limits}
 use Rattle.js_grammar.specs.declared.form.Construct.{Construct}
 use Rattle.js_grammar.specs.declared.form.Construct.TheVariants as c
-use Rattle.js_grammar.specs.Symbols.{Symbol, Symbols, symbol, symbols}
+use Rattle.js_grammar.specs.Symbols.{Symbols, symbols}
 use Rattle.js_grammar.specs.Names.{is_eval, is_function_name, is_infinity, is_arguments, is_callee, is_caller, is_own}
 use Rattle.js_grammar.specs.Accepted.{IsUnlimited, Keeps, IsOverAt, functions_in}
 
@@ -113,13 +113,14 @@ abbrev pub refused : Place → Option Construct → Answer
 refused place (Some construct) = Refused place construct
 refused place None = Syntax place
 
--- the `function` with which there are more functions than allowed
-abbrev pub is_too_many : ℕ → Symbols → Symbol → Bool
-is_too_many functions used s = nat_lt functions (functions_in (used ++ (s ∷ []))) && nat_lt (functions_in used) (functions_in (used ++ (s ∷ [])))
+-- the word `function`, where there are as many functions as allowed already
+abbrev pub is_too_many : ℕ → Symbols → TokenKind → Bool
+is_too_many functions used (k.Word w.Function) = nat_le functions (functions_in used)
+is_too_many functions used _ = false
 
 abbrev pub answer : ℕ → Symbols → Token → Answer
 answer functions used token =
-    if is_too_many functions used (symbol token) then TooMany token.place else refused token.place (construct used token.kind)
+    if is_too_many functions used token.kind then TooMany token.place else refused token.place (construct used token.kind)
 
 -- ---- the fault
 

@@ -20,7 +20,7 @@ use Rattle.js_tree.specs.Tree
 use Rattle.js_lexer.specs.declared.mark.Mark.{Mark}
 use Rattle.js_grammar.specs.declared.form.Form.{Form}
 use Rattle.js_grammar.specs.declared.form.Form.TheVariants.{Written}
-use Rattle.js_grammar.specs.Symbols.{Symbol, Symbols, of_kind, word, mark, name, number, string, first}
+use Rattle.js_grammar.specs.Symbols.{Symbol, Symbols, of_kind, word, mark, name, number, number_in, string, first}
 use Rattle.js_grammar.specs.Operators.{Operator, joined, sign, level, may_operate, prefix_sign, changes, postfix_sign, assignment, is_target}
 use Rattle.js_grammar.specs.Names.{get_name, is_function_number, is_reference, is_binding, is_property, key_of, is_among, is_distinct}
 use Rattle.js_grammar.specs.Contexts.{Context, part, loop, clause, labelled}
@@ -50,7 +50,7 @@ mutual
     null : {i : Bool} {l : ℕ} (b : Bool) → l ≤ 19 → Expression form i l (word w.Null b ∷ []) Tree.Null
     truth : {i : Bool} {l : ℕ} (b : Bool) → l ≤ 19 → Expression form i l (word w.True b ∷ []) (Tree.Truth true)
     falsehood : {i : Bool} {l : ℕ} (b : Bool) → l ≤ 19 → Expression form i l (word w.False b ∷ []) (Tree.Truth false)
-    numeral : {i : Bool} {l n : ℕ} (b : Bool) → l ≤ 19 → Expression form i l (number n b ∷ []) (Tree.Num n)
+    numeral : {i : Bool} {l n : ℕ} (d b : Bool) → l ≤ 19 → Expression form i l (number_in d n b ∷ []) (Tree.Num n)
     literal : {i : Bool} {l : ℕ} {text : Name} (b : Bool) → l ≤ 19 → Expression form i l (string text b ∷ []) (Tree.Str text)
     -- 11.1.4
     array : {i : Bool} {l : ℕ} {u : Symbols} {es : Elements} (b c : Bool) → l ≤ 19 → ElementList form u es
@@ -66,7 +66,7 @@ mutual
         → Expression form i l (word w.Function b ∷ u) (Tree.Function (code None ns body))
     named_function : {i : Bool} {l : ℕ} {n : Name} {u : Symbols} {ns : List Name} {body : Stmts} (b c : Bool) → l ≤ 19 → is_binding form n ≡ true
         → FunctionRest form u ns body → Expression form i l (word w.Function b ∷ (name n c ∷ u)) (Tree.Function (code (Some n) ns body))
-    -- `eval($dl_get(k))`, in the form Written alone
+    -- `eval($dl_get(k))`, in the form Written alone: k is in decimal
     late : {i : Bool} {l n : ℕ} (b c d e f g h : Bool) → l ≤ 19 → form ≡ Written → is_function_number n ≡ true
         → Expression form i l (name (codes "eval") b ∷ mark m.OpenParenthesis c ∷ name get_name d ∷ mark m.OpenParenthesis e ∷ number n f ∷ mark m.CloseParenthesis g ∷ mark m.CloseParenthesis h ∷ []) (Tree.Late n)
     -- 11.2.1: a member of a MemberExpression, or of a CallExpression
@@ -134,10 +134,10 @@ mutual
   -- 11.1.5: what stands in the braces of an object; a comma may stand at the end
   pub data PropertyList (form : Form) : Symbols → Pairs → Type 0 where
     no_property : PropertyList form [] Tree.NoPairs
-    last_property : {key : Name} {u : Symbols} {x : Expr} (kind : TokenKind) (b c : Bool) → key_of form kind ≡ Some key → Expression form true 2 u x
-        → PropertyList form (of_kind kind b ∷ (mark m.Colon c ∷ u)) (Tree.MorePairs key x Tree.NoPairs)
-    property_and : {key : Name} {u v : Symbols} {x : Expr} {ps : Pairs} (kind : TokenKind) (b c d : Bool) → key_of form kind ≡ Some key → Expression form true 2 u x → PropertyList form v ps
-        → PropertyList form (of_kind kind b ∷ (mark m.Colon c ∷ (u ++ (mark m.Comma d ∷ v)))) (Tree.MorePairs key x ps)
+    last_property : {key : Name} {u : Symbols} {x : Expr} (s : Symbol) (c : Bool) → key_of form s.kind ≡ Some key → Expression form true 2 u x
+        → PropertyList form (s ∷ (mark m.Colon c ∷ u)) (Tree.MorePairs key x Tree.NoPairs)
+    property_and : {key : Name} {u v : Symbols} {x : Expr} {ps : Pairs} (s : Symbol) (c d : Bool) → key_of form s.kind ≡ Some key → Expression form true 2 u x → PropertyList form v ps
+        → PropertyList form (s ∷ (mark m.Colon c ∷ (u ++ (mark m.Comma d ∷ v)))) (Tree.MorePairs key x ps)
 
   -- 13: a function behind its name: the formals, of which none repeats another, and the body
   pub data FunctionRest (form : Form) : Symbols → List Name → Stmts → Type 0 where

@@ -4,12 +4,11 @@ use Rattle.js_lexer.specs.declared.mark.Mark.TheVariants as m
 use Rattle.js_lexer.specs.declared.word.Word.TheVariants as w
 use Rattle.js_lexer.specs.declared.token.TokenKind.{TokenKind}
 use Rattle.js_lexer.specs.declared.token.TokenKind.TheVariants as k
-use Rattle.js_tree.specs.declared.tree.BinaryOp.TheVariants as b
 use Rattle.js_tree.specs.Tree
 use Rattle.js_tree.specs.Tree.{Name, Expr, Exprs, Stmt, VarItems, Func, Stmts, Script, MaybeStmt}
 use Rattle.js_grammar.specs.declared.form.Form.{Form}
 use Rattle.js_grammar.specs.Symbols.{Symbol, Symbols, symbols}
-use Rattle.js_grammar.specs.Operators.{is_target}
+use Rattle.js_grammar.specs.Operators.{is_target, is_in_operation}
 use Rattle.js_grammar.specs.Contexts.{Context}
 use Rattle.js_grammar.specs.Ends.{ends_changed}
 use Rattle.js_grammar.specs.Grammar.{Formals, Expression, ArgumentList, DeclaratorList, Statement, SourceElement}
@@ -94,10 +93,6 @@ ends_with_semicolon (s ∷ t ∷ ss) = ends_with_semicolon (t ∷ ss)
 abbrev pub NoneIsInsertedWhereTheNextFits : Type 0
 NoneIsInsertedWhereTheNextFits = (form : Form) (c : Context) (u : Symbols) (next : Symbol) (x : Expr) → Statement form c u next (Tree.Do x) → goes_on next.kind ≡ true
     → (ends_with_semicolon u || ends_changed u) ≡ true
-
-abbrev pub is_in_operation : Expr → Bool
-is_in_operation (Tree.Binary b.In left right) = true
-is_in_operation _ = false
 
 abbrev pub opens : TokenKind → Bool
 opens (k.Mark m.OpenParenthesis) = true

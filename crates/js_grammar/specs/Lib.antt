@@ -4,13 +4,15 @@ pub mod Names
 pub mod Contexts
 pub mod Ends
 pub mod Grammar
+pub mod Bounds
+pub mod Heights
 pub mod Depth
-pub mod Nesting
 pub mod Accepted
 pub mod Fault
 pub mod Printed
 pub mod PrintedText
 pub mod Rows
+pub mod TextRows
 pub mod WellPlaced
 pub mod Laws
 pub mod RefusedRows

@@ -8,6 +8,7 @@ use Rattle.js_lexer.specs.declared.token.TokenKind.{TokenKind}
 use Rattle.js_lexer.specs.declared.token.TokenKind.TheVariants as k
 use Rattle.js_tree.specs.Tree.{Name}
 use Rattle.js_grammar.specs.declared.form.Form.{Form}
+use Rattle.js_grammar.specs.Bounds.{first_number, last_number}
 use Rattle.js_grammar.specs.declared.form.Form.TheVariants.{Source, Written}
 
 abbrev pub is_eval : Name → Bool
@@ -37,7 +38,7 @@ is_own = begins (codes "$dl_")
 
 -- a number of a function
 abbrev pub is_function_number : ℕ → Bool
-is_function_number n = nat_le 1 n && nat_le n 65535
+is_function_number n = nat_le first_number n && nat_le n last_number
 
 -- such a number in decimal, without a leading zero
 abbrev pub is_numeral : List ℕ → Bool

@@ -87,6 +87,11 @@ abbrev pub is_in : BinaryOp → Bool
 is_in b.In = true
 is_in _ = false
 
+-- an operation with `in`
+abbrev pub is_in_operation : Expr → Bool
+is_in_operation (Tree.Binary op left right) = is_in op
+is_in_operation _ = false
+
 -- the operator `in` stands only where it may
 abbrev pub may_operate : Bool → Operator → Bool
 may_operate with_in LogicalOr = true

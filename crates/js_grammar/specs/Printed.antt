@@ -9,7 +9,7 @@ use Rattle.js_lexer.specs.declared.token.TokenKind.{TokenKind}
 use Rattle.js_lexer.specs.declared.token.TokenKind.TheVariants as k
 use Rattle.js_tree.specs.Tree.{Name, Expr, MaybeExpr, Stmt, Func}
 use Rattle.js_tree.specs.Tree
-use Rattle.js_grammar.specs.Operators.{sign, level, LogicalOr, LogicalAnd, Operation, is_in, prefix_sign, changes, postfix_sign, assignment}
+use Rattle.js_grammar.specs.Operators.{sign, level, LogicalOr, LogicalAnd, Operation, is_in_operation, prefix_sign, changes, postfix_sign, assignment}
 use Rattle.js_grammar.specs.Names.{get_name}
 
 abbrev pub Kinds : Type 0
@@ -40,10 +40,6 @@ is_number _ = false
 abbrev pub is_function : Expr → Bool
 is_function (Tree.Function f) = true
 is_function _ = false
-
-abbrev pub is_in_operation : Expr → Bool
-is_in_operation (Tree.Binary op left right) = is_in op
-is_in_operation _ = false
 
 -- a call is on its left side, outside parentheses
 abbrev pub has_call : Expr → Bool

@@ -10,6 +10,7 @@ use Rattle.js_tree.specs.declared.tree.PrefixOp.TheVariants as p
 use Rattle.js_tree.specs.Tree.{Expr, Script}
 use Rattle.js_tree.specs.Tree
 use Rattle.js_grammar.specs.declared.form.Limits.{Limits}
+use Rattle.js_grammar.specs.Bounds.{in_source}
 use Rattle.js_grammar.specs.Symbols.{word, mark, name}
 use Rattle.js_grammar.specs.Fault.{Answer, answer}
 
@@ -52,7 +53,7 @@ abbrev pub brackets : List Token
 brackets = token (k.Mark m.OpenParenthesis) 0 1 1 1 false ∷ token (k.Mark m.OpenParenthesis) 1 2 1 2 false ∷ token (k.Word w.With) 2 6 1 3 false ∷ token k.End 6 6 1 7 false ∷ []
 
 abbrev pub one_bracket : Limits
-one_bracket = record { depth = 400; nesting = 64; brackets = 1; functions = 65535 }
+one_bracket = record in_source { brackets = 1 }
 
 -- what is told of a token behind the tokens `function f(a`, if it is the breaking one
 abbrev pub told : TokenKind → Answer
@@ -77,3 +78,7 @@ callee_read = token (k.Name (codes "a")) 0 1 1 1 false ∷ token (k.Mark m.Dot) 
 -- `var arguments`
 abbrev pub arguments_declared : List Token
 arguments_declared = token (k.Word w.Var) 0 3 1 1 false ∷ token (k.Name (codes "arguments")) 4 13 1 5 false ∷ token k.End 13 13 1 14 false ∷ []
+
+-- `x=eval($dl_get(0x2))`
+abbrev pub late_in_hexadecimal : List Token
+late_in_hexadecimal = token (k.Name (codes "x")) 0 1 1 1 false ∷ token (k.Mark m.Assign) 1 2 1 2 false ∷ token (k.Name (codes "eval")) 2 6 1 3 false ∷ token (k.Mark m.OpenParenthesis) 6 7 1 7 false ∷ token (k.Name (codes "$dl_get")) 7 14 1 8 false ∷ token (k.Mark m.OpenParenthesis) 14 15 1 15 false ∷ token (k.Number 2) 15 18 1 16 false ∷ token (k.Mark m.CloseParenthesis) 18 19 1 19 false ∷ token (k.Mark m.CloseParenthesis) 19 20 1 20 false ∷ token k.End 20 20 1 21 false ∷ []

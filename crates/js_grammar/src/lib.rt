@@ -6,10 +6,16 @@
 //! the laws of `laws`. `rows` has worked texts, computed in them.
 #![tactic(auto)]
 
+mod expression_rows;
 mod form;
 mod laws;
+mod printed_rows;
 mod rows;
+mod statement_rows;
 
+pub use expression_rows::{
+    assignments, calls, formals, headers, literals, names, operators, prefixes, written_form,
+};
 pub use form::{Construct, Form, Limits};
 pub use laws::{
     accepted_has_no_fault, brackets_are_closed, else_is_of_the_nearest_if, functions_are_counted,
@@ -18,4 +24,6 @@ pub use laws::{
     one_list_of_formals, one_tree, one_tree_of_a_token, printed_tokens_read_back,
     scripts_do_not_break, targets_rise, tokens_are_placed,
 };
+pub use printed_rows::{parentheses, spaces, tokens_written};
 pub use rows::{accepted_texts, refused_texts, told_tokens, written_parts};
+pub use statement_rows::{expression_statements, jumps, labels, semicolons, statements};

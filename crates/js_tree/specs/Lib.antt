@@ -1,3 +1,5 @@
 pub mod Tree
 pub mod Plain
 pub mod Numbering
+pub mod TreeRows
+pub mod PlainRows

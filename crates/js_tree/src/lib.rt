@@ -6,10 +6,12 @@
 #![tactic(auto)]
 
 mod copy;
+mod rows;
 #[cfg(test)]
 mod tests;
 mod tree;
 
+pub use rows::{functions_in_trees, numbered_scripts, plain_nodes};
 pub use tree::{
     BinaryOp, Case, Cases, Elements, Expr, Exprs, ForInit, ForTarget, Func, LAST_FUNCTION_NUMBER,
     Pair, Pairs, PostfixOp, PrefixOp, Role, Script, Scripts, Stmt, Stmts, VarItem, VarItems,

@@ -1,4 +1,4 @@
-use Rattle.js_grammar.proofs.Accepting.{no_fault}
+use Rattle.js_grammar.proofs.NoFault.{no_fault}
 use Rattle.js_grammar.proofs.laws.accepted_has_no_fault.Goals as goal
 
 pub returns : goal.returns

@@ -1,4 +1,4 @@
-use Rattle.js_grammar.proofs.Counting.{source_element}
+use Rattle.js_grammar.proofs.Counts.{source_element}
 use Rattle.js_grammar.proofs.laws.brackets_are_closed.Goals as goal
 
 pub returns : goal.returns

@@ -1,4 +1,4 @@
-use Rattle.js_grammar.proofs.Ending.{nearest}
+use Rattle.js_grammar.proofs.StatementEnds.{nearest}
 use Rattle.js_grammar.proofs.laws.else_is_of_the_nearest_if.Goals as goal
 
 pub returns : goal.returns

@@ -1,4 +1,4 @@
-use Rattle.js_grammar.proofs.Counting.{functions_counted}
+use Rattle.js_grammar.proofs.Counts.{functions_counted}
 use Rattle.js_grammar.proofs.laws.functions_are_counted.Goals as goal
 
 pub returns : goal.returns

@@ -1,4 +1,4 @@
-use Rattle.js_grammar.proofs.Ending.{in_parentheses}
+use Rattle.js_grammar.proofs.StatementEnds.{in_parentheses}
 use Rattle.js_grammar.proofs.laws.in_is_in_parentheses.Goals as goal
 
 pub returns : goal.returns

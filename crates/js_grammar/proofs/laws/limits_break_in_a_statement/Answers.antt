@@ -1,4 +1,4 @@
-use Rattle.js_grammar.proofs.Somewhere.{somewhere}
+use Rattle.js_grammar.proofs.BrokenLimits.{somewhere}
 use Rattle.js_grammar.proofs.laws.limits_break_in_a_statement.Goals as goal
 
 pub returns : goal.returns

@@ -1,4 +1,4 @@
-use Rattle.js_grammar.proofs.Ending.{none_inserted}
+use Rattle.js_grammar.proofs.StatementEnds.{none_inserted}
 use Rattle.js_grammar.proofs.laws.none_is_inserted_where_the_next_fits.Goals as goal
 
 pub returns : goal.returns

@@ -1,4 +1,4 @@
-use Rattle.js_grammar.proofs.Breaking.{one_breaking}
+use Rattle.js_grammar.proofs.BreakingTokens.{one_breaking}
 use Rattle.js_grammar.proofs.laws.one_breaking_token.Goals as goal
 
 pub returns : goal.returns

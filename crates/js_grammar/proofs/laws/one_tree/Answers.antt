@@ -1,4 +1,4 @@
-use Rattle.js_grammar.proofs.Completing.{one_tree}
+use Rattle.js_grammar.proofs.OneTree.{one_tree}
 use Rattle.js_grammar.proofs.laws.one_tree.Goals as goal
 
 pub returns : goal.returns

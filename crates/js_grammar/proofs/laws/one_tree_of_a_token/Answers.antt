@@ -1,4 +1,4 @@
-use Rattle.js_grammar.proofs.Tokens.{one_tree}
+use Rattle.js_grammar.proofs.SingleTokens.{one_tree}
 use Rattle.js_grammar.proofs.laws.one_tree_of_a_token.Goals as goal
 
 pub returns : goal.returns

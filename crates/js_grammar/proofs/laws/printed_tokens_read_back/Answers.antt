@@ -1,4 +1,4 @@
-use Rattle.js_grammar.proofs.ReadingBack.{read_back}
+use Rattle.js_grammar.proofs.PrintedTokens.{read_back}
 use Rattle.js_grammar.proofs.laws.printed_tokens_read_back.Goals as goal
 
 pub returns : goal.returns

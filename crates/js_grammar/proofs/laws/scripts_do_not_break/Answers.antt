@@ -1,4 +1,4 @@
-use Rattle.js_grammar.proofs.Breaking.{not_broken}
+use Rattle.js_grammar.proofs.BreakingTokens.{not_broken}
 use Rattle.js_grammar.proofs.laws.scripts_do_not_break.Goals as goal
 
 pub returns : goal.returns

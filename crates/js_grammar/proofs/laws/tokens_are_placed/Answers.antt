@@ -1,4 +1,4 @@
-use Rattle.js_grammar.proofs.Placing.{begun}
+use Rattle.js_grammar.proofs.TokenPlaces.{begun}
 use Rattle.js_grammar.proofs.laws.tokens_are_placed.Goals as goal
 
 pub returns : goal.returns

@@ -1,4 +1,4 @@
-use Rattle.js_grammar.proofs.Worked as worked
+use Rattle.js_grammar.proofs.AcceptedTexts as worked
 use Rattle.js_grammar.proofs.rows.accepted_texts.Goals as goal
 
 pub returns-clause-three_lines : goal.returns-clause-three_lines

@@ -1,4 +1,4 @@
-use Rattle.js_grammar.proofs.Refusing as worked
+use Rattle.js_grammar.proofs.RefusedTexts as worked
 use Rattle.js_grammar.proofs.rows.refused_texts.Goals as goal
 
 pub returns-clause-with_statement : goal.returns-clause-with_statement
@@ -39,3 +39,6 @@ returns-clause-callee_read c = worked.callee_read
 
 pub returns-clause-arguments_declared : goal.returns-clause-arguments_declared
 returns-clause-arguments_declared c = worked.arguments_declared
+
+pub returns-clause-late_in_hexadecimal : goal.returns-clause-late_in_hexadecimal
+returns-clause-late_in_hexadecimal c = worked.late_in_hexadecimal

@@ -1,4 +1,4 @@
-use Rattle.js_grammar.proofs.Refusing as worked
+use Rattle.js_grammar.proofs.RefusedTexts as worked
 use Rattle.js_grammar.proofs.rows.told_tokens.Goals as goal
 
 pub returns-clause-with_is : goal.returns-clause-with_is

@@ -1,4 +1,4 @@
-use Rattle.js_grammar.proofs.Worked as worked
+use Rattle.js_grammar.proofs.AcceptedTexts as worked
 use Rattle.js_grammar.proofs.rows.written_parts.Goals as goal
 
 pub returns-clause-function_text : goal.returns-clause-function_text
