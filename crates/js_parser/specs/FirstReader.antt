@@ -3,7 +3,7 @@ use Rattle.std.specs.Prelude.{ℕ, Bool, not, ◌&&◌, nat_le, ◌==◌, if◌t
 use Rattle.std.specs.Prelude.{List, [], Option, codes}
 use Rattle.text_reader.specs.Reader.{Reader, ◌>>=◌, ◌>>◌, pure, refuse, either}
 use Rattle.text_reader.specs.Reader.{skip, ended, one, run, decimal, up_to, list_after, whole}
-use Rattle.js_tree.specs.Numbering.{last_function_number}
+use Rattle.js_tree.specs.Numbering.{is_function_number}
 use Rattle.js_parser.specs.declared.first.FirstStatement.{FirstStatement}
 use Rattle.js_parser.specs.declared.first.FirstStatement.TheVariants.{Call, Out}
 use Rattle.js_parser.specs.declared.first.FirstBody.{FirstBody}
@@ -21,9 +21,6 @@ is_letter c = nat_le 97 c && nat_le c 122
 
 abbrev pub is_plain : ℕ → Bool
 is_plain c = nat_le 32 c && (nat_le c 126 && (not (c == 34) && not (c == 92)))
-
-abbrev pub is_function_number : ℕ → Bool
-is_function_number k = nat_le 1 k && nat_le k last_function_number
 
 abbrev pub letter : Reader ℕ
 letter = one is_letter

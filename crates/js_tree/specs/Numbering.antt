@@ -1,12 +1,16 @@
 -- The numbers of functions: 1, 2, .. over the scripts in order, by the place of a function's first
 -- token. A function's first token is its word `function`, so a function comes before those inside it,
 -- and these come in the order of the text.
-use Rattle.std.specs.Prelude.{◌≡◌, ℕ, ◌+◌, List, [], ◌∷◌, ◌++◌}
+use Rattle.std.specs.Prelude.{◌≡◌, ℕ, ◌+◌, Bool, ◌&&◌, nat_le, List, [], ◌∷◌, ◌++◌}
 use Rattle.js_tree.specs.Tree
 
 -- the greatest number of a function
 abbrev pub last_function_number : ℕ
 last_function_number = 65535
+
+-- the numbers that a function may have
+abbrev pub is_function_number : ℕ → Bool
+is_function_number n = nat_le 1 n && nat_le n last_function_number
 
 -- the functions of a tree, in the order of their first tokens
 abbrev mutual

@@ -13,7 +13,7 @@ use Rattle.js_parser.specs.First.{IsFunctionNumber}
 use Rattle.play.specs.declared.manifest.ClusterLine.{ClusterLine}
 use Rattle.play.specs.declared.manifest.Manifest.{Manifest}
 use Rattle.play.specs.Manifest.{most_script_bytes, most_cluster_bytes, Rises, IsClusterLine, IsManifest, cluster_numbers, all_numbers}
-use Rattle.js_parser.specs.FirstReader.{is_function_number}
+use Rattle.js_tree.specs.Numbering.{is_function_number}
 use Rattle.play.specs.ManifestReader.{rises, are_entries, is_cluster_line, is_distinct, has_lines_of_form, is_manifest}
 
 -- ---- numbers

@@ -3,7 +3,7 @@
 use Rattle.std.specs.Prelude.{ℕ, Bool, true, not, ◌&&◌, nat_le, nat_lt, nat_eq, if◌then◌else◌}
 use Rattle.std.specs.Prelude.{length, List, [], ◌∷◌, Option, Some, None, codes}
 use Rattle.std.specs.List.{list_all}
-use Rattle.js_parser.specs.FirstReader.{is_function_number}
+use Rattle.js_tree.specs.Numbering.{is_function_number}
 use Rattle.text_reader.specs.Reader.{Found, Reader, ◌>>=◌, ◌>>◌, pure, either}
 use Rattle.text_reader.specs.Reader.{skip, ended, decimal, behind, list_after}
 use Rattle.play.specs.declared.manifest.ClusterLine.{ClusterLine}
