@@ -1,5 +1,5 @@
-ghost use Rattle.std.specs.Prelude.{◌≡◌, ◌++◌, All, IfOk};
-ghost use Rattle.std.specs.List.{flat_map, list_all};
+ghost use Rattle.std.specs.Prelude.{◌≡◌, All, IfOk};
+ghost use Rattle.std.specs.List.{list_all};
 ghost use Rattle.js_parser.specs.First.{IsFunctionNumber};
 ghost use Rattle.play.specs.Manifest.{all_numbers, cluster_numbers};
 ghost use Rattle.js_tree.specs.Numbering.{is_function_number};

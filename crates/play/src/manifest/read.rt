@@ -1,4 +1,3 @@
-ghost use Rattle.std.specs.Prelude.{◌≡◌};
 ghost use Rattle.play.specs.ManifestReader as reader;
 ghost use Rattle.text_reader.specs.Gives.{Gives};
 
