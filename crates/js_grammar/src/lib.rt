@@ -9,6 +9,7 @@
 mod expression_rows;
 mod form;
 mod laws;
+mod limit_rows;
 mod printed_rows;
 mod rows;
 mod statement_rows;
@@ -23,6 +24,9 @@ pub use laws::{
     limits_break_in_a_statement, none_is_inserted_where_the_next_fits, one_breaking_token,
     one_list_of_formals, one_tree, one_tree_of_a_token, printed_tokens_read_back,
     scripts_do_not_break, targets_rise, tokens_are_placed,
+};
+pub use limit_rows::{
+    bounds, counted_tokens, depths, in_decimal, limits, nestings, placed_tokens, told_by_tokens,
 };
 pub use printed_rows::{parentheses, spaces, tokens_written};
 pub use rows::{accepted_texts, refused_texts, told_tokens, written_parts};
