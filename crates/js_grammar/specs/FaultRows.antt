@@ -6,7 +6,6 @@ use Rattle.js_lexer.specs.declared.token.TokenKind.{TokenKind}
 use Rattle.js_tree.specs.Tree.{Script, Func, MoreStmts, NoStmts, Do, Declare, Function}
 use Rattle.js_grammar.specs.declared.form.Form.{Form}
 use Rattle.js_grammar.specs.declared.form.Limits.{Limits}
-use Rattle.js_grammar.specs.Symbols.{Symbols}
 use Rattle.js_grammar.specs.Grammar.{code}
 use Rattle.js_grammar.specs.Accepted.{Keeps, functions_in, most_open}
 use Rattle.js_grammar.specs.Fault.{Answer, answer}

@@ -9,7 +9,6 @@
 use Rattle.std.specs.Prelude.{ℕ, suc, ◌≡◌, ◌≢◌, ◌≤◌, Bool, true, false, List, [], ◌∷◌, ◌++◌, Option, Some, None}
 use Rattle.js_lexer.specs.declared.mark.Mark.TheVariants as m
 use Rattle.js_lexer.specs.declared.word.Word.TheVariants as w
-use Rattle.js_lexer.specs.declared.token.TokenKind.{TokenKind}
 use Rattle.js_lexer.specs.declared.token.TokenKind.TheVariants as k
 use Rattle.js_tree.specs.declared.tree.BinaryOp.{BinaryOp}
 use Rattle.js_tree.specs.declared.tree.PrefixOp.{PrefixOp}

@@ -5,7 +5,7 @@ use Rattle.js_lexer.specs.declared.word.Word.TheVariants as w
 use Rattle.js_lexer.specs.declared.token.TokenKind.{TokenKind}
 use Rattle.js_lexer.specs.declared.token.TokenKind.TheVariants as k
 use Rattle.js_tree.specs.Tree
-use Rattle.js_tree.specs.Tree.{Name, Expr, Exprs, Stmt, VarItems, Func, Stmts, Script, MaybeStmt}
+use Rattle.js_tree.specs.Tree.{Name, Expr, Exprs, Stmt, VarItems, Script, MaybeStmt}
 use Rattle.js_grammar.specs.declared.form.Form.{Form}
 use Rattle.js_grammar.specs.Symbols.{Symbol, Symbols, symbols}
 use Rattle.js_grammar.specs.Operators.{is_target, is_in_operation}

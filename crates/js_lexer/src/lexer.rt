@@ -1,6 +1,6 @@
 ghost use Rattle.std.specs.Prelude.{◌≡◌, ◌-◌, ◌<◌, ◌^◌, false, length, IfOk, IfErr, encode_utf8_all};
 ghost use Rattle.std.specs.Str.{chars};
-ghost use Rattle.js_lexer.specs.Position.{IsBounded, passed, tokens_at};
+ghost use Rattle.js_lexer.specs.Position.{IsBounded};
 ghost use Rattle.js_lexer.specs.Tokens as spec;
 
 use crate::front::{Front, read_front};

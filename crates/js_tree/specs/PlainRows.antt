@@ -1,5 +1,5 @@
 -- One node of each kind as it is declared, and what its plain tree is.
-use Rattle.std.specs.Prelude.{ℕ, true, List, [], ◌∷◌, codes, Option, Some, None}
+use Rattle.std.specs.Prelude.{true, List, [], ◌∷◌, codes, Some, None}
 use Rattle.js_tree.specs.declared.tree.BinaryOp.TheVariants.{Subtract}
 use Rattle.js_tree.specs.declared.tree.PrefixOp.TheVariants.{Minus}
 use Rattle.js_tree.specs.declared.tree.PostfixOp.TheVariants.{Decrement}

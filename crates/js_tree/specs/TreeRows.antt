@@ -4,7 +4,7 @@ use Rattle.js_tree.specs.declared.tree.BinaryOp.TheVariants.{Add}
 use Rattle.js_tree.specs.declared.tree.PrefixOp.TheVariants.{Not}
 use Rattle.js_tree.specs.declared.tree.PostfixOp.TheVariants.{Increment}
 use Rattle.js_tree.specs.declared.tree.Role.TheVariants.{Plain}
-use Rattle.js_tree.specs.Tree.{Name, Expr, MaybeExpr, Stmt, Stmts, Func, Script}
+use Rattle.js_tree.specs.Tree.{Name, Expr, Stmt, Stmts, Func, Script}
 use Rattle.js_tree.specs.Tree as tree
 use Rattle.js_tree.specs.Numbering.{in_expr, in_stmt, number_of}
 
