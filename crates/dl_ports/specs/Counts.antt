@@ -1,5 +1,5 @@
 -- Counts of faults.
-use Rattle.std.specs.Prelude.{ℕ, ◌+◌, ◌-◌, ◌^◌, ◌≤◌, min, Result, IsErrOf}
+use Rattle.std.specs.Prelude.{◌≡◌, ℕ, ◌+◌, ◌-◌, ◌^◌, ◌≤◌, min, Result, IsErrOf}
 use Rattle.dl_ports.specs.declared.port.PortError.{PortError}
 use Rattle.dl_ports.specs.declared.port.PortError.TheVariants.{Failed}
 
@@ -7,7 +7,13 @@ use Rattle.dl_ports.specs.declared.port.PortError.TheVariants.{Failed}
 abbrev pub Rose : ℕ → ℕ → Type 0
 Rose before now = min (before + 1) (2 ^ 64 - 1) ≤ now
 
--- the count of faults has not fallen in the call, and Failed is answered only where it rose
-pub record HasCause {T : Type 0} (before now : ℕ) (result : Result T PortError) : Type 0 where
+-- a count of faults over a call: it has not fallen, it rose where the call tells a fault, and it
+-- stayed where the call tells none. So no fault is passed over, and none is told as something else
+pub record CountsFault (told : Type 0) (before now : ℕ) : Type 0 where
   pub later : before ≤ now
-  pub failed : IsErrOf result Failed → Rose before now
+  pub rose : told → Rose before now
+  pub kept : (told → ⊥) → now ≡ before
+
+-- the count of a port over one of its calls, which tells a fault as Failed
+abbrev pub HasCause : {T : Type 0} → ℕ → ℕ → Result T PortError → Type 0
+HasCause before now result = CountsFault (IsErrOf result Failed) before now

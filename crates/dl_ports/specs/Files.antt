@@ -24,7 +24,7 @@ pub record Writes (name bytes : List ℕ) (old new : Files) : Type 0 where
   pub written : new name ≡ Some bytes
   pub others : SameBut name old new
 
--- the file of one name stands at another, in place of what stood there, and every other is as before
+-- the file of one name stands at another, in place of what stood there; all others are as before
 pub record Renames (from to : List ℕ) (old new : Files) : Type 0 where
   pub moved : new to ≡ old from
   pub gone : from ≢ to → new from ≡ None

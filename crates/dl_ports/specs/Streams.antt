@@ -12,4 +12,5 @@ and_front front left = option_map (λ bytes. front ++ bytes) left
 
 -- a front of the bytes was written, which is shorter than they are unless they are none
 abbrev pub WritesPart : Option (List ℕ) → List ℕ → Option (List ℕ) → Type 0
-WritesPart before bytes now = (n : ℕ) × ((n < length bytes) ⊎ (bytes ≡ [])) × (now ≡ and_more before (take n bytes))
+WritesPart before bytes now =
+    (n : ℕ) × ((n < length bytes) ⊎ (bytes ≡ [])) × (now ≡ and_more before (take n bytes))

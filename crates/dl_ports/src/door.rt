@@ -1,8 +1,7 @@
 // Where connections arrive.
 ghost use Rattle.std.specs.Prelude.{◌≡◌, ◌+◌, ◌<◌, List, Option, ℕ, [], Some, IfOk, IfSome, OnErr, MatchOption};
 ghost use Rattle.dl_ports.specs.Counts.{HasCause};
-ghost use Rattle.dl_ports.specs.Told.{WhereTold};
-ghost use Rattle.dl_ports.specs.Doors.{Ended, ended, and_link, TakesFirst, NoneLeft};
+ghost use Rattle.dl_ports.specs.Doors.{Ended, ended, and_link, Arrives, NoneLeft};
 
 use crate::{Port, PortError, Sink, Source};
 
@@ -22,13 +21,15 @@ pub trait Door: Port {
     /// The next link, or `None` exactly where there is no further one.
     fn accept(&mut self) -> Result<Option<Self::Link>, PortError>
         // The link has the first of the inputs left, nothing written and no faults.
-        ensures input { IfOk result (λ link. MatchOption link (NoneLeft (inputs self.old) (inputs self.new))
-            (λ link. WhereTold (TakesFirst (Self.Link.Port.left link)) (inputs self.old) (inputs self.new))) }
+        ensures input { IfOk result (λ link. MatchOption link
+            (NoneLeft (inputs self.old) (inputs self.new))
+            (λ link. Arrives (Self.Link.Port.left link) (inputs self.old) (inputs self.new))) }
         ensures told { IfOk result (λ link. IfSome link
             (λ link. IfSome (inputs self.old) (λ _. Self.Link.Port.written link ≡ Some []))) }
         ensures nothing_written { IfOk result (λ link. IfSome link
             (λ link. IfSome (Self.Link.Port.written link) (λ bytes. bytes ≡ []))) }
-        ensures no_faults { IfOk result (λ link. IfSome link (λ link. Self.Link.Port.faults link ≡ 0)) }
+        ensures no_faults { IfOk result (λ link. IfSome link
+            (λ link. Self.Link.Port.faults link ≡ 0)) }
 
         ensures lent { IfOk result (λ link. MatchOption link (lent self.new ≡ lent self.old)
             (λ _. lent self.new ≡ lent self.old + 1)) }
@@ -39,11 +40,13 @@ pub trait Door: Port {
         ensures same_left { Self.left self.new ≡ Self.left self.old }
         ensures same_written { Self.written self.new ≡ Self.written self.old };
 
-    /// Takes a link back. It cannot fail and takes no memory, since the `accept` that lent the link made the room.
+    /// Takes a link back. It cannot fail and takes no memory, since the `accept` that lent the link
+    /// made the room.
     fn close(&mut self, link: Self::Link)
         requires { 0 < lent self.old }
         ensures closed { closed self.new
-            ≡ and_link (closed self.old) (ended Self.Link.Port.left Self.Link.Port.written Self.Link.Port.faults link) }
+            ≡ and_link (closed self.old)
+            (ended Self.Link.Port.left Self.Link.Port.written Self.Link.Port.faults link) }
         ensures lent { lent self.new + 1 ≡ lent self.old }
         ensures same_inputs { inputs self.new ≡ inputs self.old }
         ensures same_faults { Self.faults self.new ≡ Self.faults self.old }

@@ -37,7 +37,8 @@ impl<R: Files> FolderStore<R> {
     }
 }
 
-// The bytes of a file, or `None` where there is none. A file that goes on past the limit is an error.
+// The bytes of a file, or `None` where there is none. A file that goes on past the limit is an
+// error.
 fn read_file<R: Files>(rt: &R, alloc: Global, name: &str) -> io::Result<Option<Vec<u8>>> {
     let file = match File::open(rt, name) {
         Ok(file) => file,

@@ -1,8 +1,10 @@
-//! What reaches outside a program: stores of files, sinks and sources of bytes, and doors where connections arrive.
+//! What reaches outside a program: stores of files, sinks and sources of bytes, and doors where
+//! connections arrive.
 //!
-//! Each is a trait over `Port`. A layer above is generic over them and may know of a port only its meanings: what it tells of its contents,
-//! and its counts of faults. A port in memory tells everything, and one over the system tells nothing. A call
-//! answers `Failed` only where the port's count of faults rose, and each call says what a refusal leaves.
+//! Each is a trait over `Port`. A layer above is generic over them and may know of a port only its
+//! meanings: what it tells of its contents, and its counts of faults. A port in memory tells
+//! everything, and one over the system tells nothing. A call answers `Failed` exactly where the
+//! port's count of faults rose, and each call says what a refusal leaves.
 #![tactic(auto)]
 
 mod door;

@@ -19,15 +19,16 @@ pub struct MemoryLink {
 }
 
 impl MemoryLink {
-    ghost use Rattle.dl_ports.specs.Memory.{link_left, link_written, link_plan};
+    ghost use Rattle.dl_ports.specs.Memory.{link_left, link_written, link_faults, link_plan};
     ghost use Rattle.dl_ports.specs.Plans.{IsFresh};
 
-    /// A link with these bytes left. The calls of `Source` and `Sink` whose numbers, counted from 1, are in `fail` are to fail.
+    /// A link with these bytes left. The calls of `Source` and `Sink` whose numbers, counted from
+    /// 1, are in `fail` are to fail.
     pub fn new(alloc: Global, input: Vec<u8>, fail: Vec<u64>) -> Result<MemoryLink, AllocError>
         ensures left { IfOk result (λ link. link_left link ≡ input.items) }
         ensures written { IfOk result (λ link. link_written link ≡ []) }
         ensures plan { IfOk result (λ link. IsFresh (link_plan link) fail.items) }
-        ensures faults { IfOk result (λ link. ⟦<MemoryLink as Port>⟧.faults link ≡ 0) }
+        ensures faults { IfOk result (λ link. link_faults link ≡ 0) }
     {
         Ok(MemoryLink::arrived(alloc, input, fail))
     }
@@ -37,7 +38,7 @@ impl MemoryLink {
         ensures left { link_left result ≡ input.items }
         ensures written { link_written result ≡ [] }
         ensures plan { IsFresh (link_plan result) fail.items }
-        ensures faults { ⟦<MemoryLink as Port>⟧.faults result ≡ 0 }
+        ensures faults { link_faults result ≡ 0 }
     {
         MemoryLink {
             input,
@@ -67,16 +68,17 @@ impl Port for MemoryLink {
 }
 
 impl Source for MemoryLink {
-    ghost use Rattle.dl_ports.specs.Memory.{link_left, link_written, link_plan};
+    ghost use Rattle.dl_ports.specs.Memory.{link_left, link_written, link_faults, link_plan};
     ghost use Rattle.dl_ports.specs.Plans.{GoesByPlan};
 
     fn take(&mut self, room: &mut [u8]) -> Result<usize, PortError>
         requires { 0 < length room.old }
         ensures bound { IfOk result (λ n. n ≤ length room.new) }
-        ensures taken { IfOk result (λ n. Some (link_left self.old) ≡ and_front (take n room.new) (Some (link_left self.new))) }
+        ensures taken { IfOk result (λ n. Some (link_left self.old)
+            ≡ and_front (take n room.new) (Some (link_left self.new))) }
         ensures end { IfOk result (λ n. (n ≡ 0) ↔ (link_left self.old ≡ [])) }
         ensures refused { OnErr result (Some (link_left self.new) ≡ Some (link_left self.old)) }
-        ensures cause { HasCause (⟦<MemoryLink as Port>⟧.faults self.old) (⟦<MemoryLink as Port>⟧.faults self.new) result }
+        ensures cause { HasCause (link_faults self.old) (link_faults self.new) result }
         ensures same_written { Some (link_written self.new) ≡ Some (link_written self.old) }
         ensures plan { GoesByPlan (link_plan self.old) (link_plan self.new) result }
     {
@@ -90,15 +92,17 @@ impl Source for MemoryLink {
 }
 
 impl Sink for MemoryLink {
-    ghost use Rattle.dl_ports.specs.Memory.{link_left, link_written, link_plan};
+    ghost use Rattle.dl_ports.specs.Memory.{link_left, link_written, link_faults, link_plan};
     ghost use Rattle.dl_ports.specs.Plans.{GoesByPlan};
 
     fn put(&mut self, piece: &[u8]) -> Result<usize, PortError>
         ensures bound { IfOk result (λ n. n ≤ length piece.now) }
         ensures some { IfOk result (λ n. 0 < length piece.now → 0 < n) }
-        ensures taken { IfOk result (λ n. Some (link_written self.new) ≡ and_more (Some (link_written self.old)) (take n piece.now)) }
-        ensures refused { OnErr result (Some (link_written self.new) ≡ Some (link_written self.old)) }
-        ensures cause { HasCause (⟦<MemoryLink as Port>⟧.faults self.old) (⟦<MemoryLink as Port>⟧.faults self.new) result }
+        ensures taken { IfOk result (λ n. Some (link_written self.new)
+            ≡ and_more (Some (link_written self.old)) (take n piece.now)) }
+        ensures refused { OnErr result (Some (link_written self.new)
+            ≡ Some (link_written self.old)) }
+        ensures cause { HasCause (link_faults self.old) (link_faults self.new) result }
         ensures same_left { Some (link_left self.new) ≡ Some (link_left self.old) }
         ensures plan { GoesByPlan (link_plan self.old) (link_plan self.new) result }
     {

@@ -18,15 +18,15 @@ pub struct MemorySink {
 }
 
 impl MemorySink {
-    ghost use Rattle.dl_ports.specs.Memory.{sink_written, sink_plan, sink_most};
+    ghost use Rattle.dl_ports.specs.Memory.{sink_written, sink_faults, sink_plan, sink_most};
 
-    /// A sink that has taken nothing. It takes at most `most` bytes a call, and fails at the calls of `put` whose
-    /// numbers, counted from 1, are in `fail`.
+    /// A sink that has taken nothing. It takes at most `most` bytes a call, and fails at the calls
+    /// of `put` whose numbers, counted from 1, are in `fail`.
     pub fn new(alloc: Global, most: usize, fail: Vec<u64>) -> Result<MemorySink, AllocError>
         ensures written { IfOk result (λ sink. sink_written sink ≡ []) }
         ensures most { IfOk result (λ sink. sink_most sink ≡ most) }
         ensures plan { IfOk result (λ sink. IsFresh (sink_plan sink) fail.items) }
-        ensures faults { IfOk result (λ sink. ⟦<MemorySink as Port>⟧.faults sink ≡ 0) }
+        ensures faults { IfOk result (λ sink. sink_faults sink ≡ 0) }
     {
         Ok(MemorySink {
             plan: Plan::new(fail),
@@ -55,16 +55,18 @@ impl Port for MemorySink {
 }
 
 impl Sink for MemorySink {
-    ghost use Rattle.dl_ports.specs.Memory.{sink_written, sink_plan, sink_most};
+    ghost use Rattle.dl_ports.specs.Memory.{sink_written, sink_faults, sink_plan, sink_most};
 
     fn put(&mut self, piece: &[u8]) -> Result<usize, PortError>
         ensures bound { IfOk result (λ n. n ≤ length piece.now) }
         ensures some { IfOk result (λ n. 0 < length piece.now → 0 < n) }
-        ensures taken { IfOk result (λ n. Some (sink_written self.new) ≡ and_more (Some (sink_written self.old)) (take n piece.now)) }
-        ensures refused { OnErr result (Some (sink_written self.new) ≡ Some (sink_written self.old)) }
-        ensures cause { HasCause (⟦<MemorySink as Port>⟧.faults self.old) (⟦<MemorySink as Port>⟧.faults self.new) result }
+        ensures taken { IfOk result (λ n. Some (sink_written self.new)
+            ≡ and_more (Some (sink_written self.old)) (take n piece.now)) }
+        ensures refused { OnErr result (Some (sink_written self.new)
+            ≡ Some (sink_written self.old)) }
+        ensures cause { HasCause (sink_faults self.old) (sink_faults self.new) result }
 
-        // It takes at most so many bytes a call, and fails where it was told to or can take nothing.
+        // It takes at most so many bytes a call. It fails where it was told to or can take nothing.
         ensures most { IfOk result (λ n. n ≡ min (length piece.now) (sink_most self.old)) }
         ensures due { OnOk result (IsDue (sink_plan self.old) → ⊥) }
         ensures failed { IsErrOf result PortError.Failed

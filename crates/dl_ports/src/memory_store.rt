@@ -24,15 +24,16 @@ pub struct MemoryStore {
 }
 
 impl MemoryStore {
-    ghost use Rattle.dl_ports.specs.Memory.{stored_files, stored_asked, store_plan};
+    ghost use Rattle.dl_ports.specs.Memory.{stored_files, stored_asked, store_faults, store_write_faults, store_plan};
 
-    /// A store without files. The calls of `Store` whose numbers, counted from 1, are in `fail` are to fail.
+    /// A store without files. The calls of `Store` whose numbers, counted from 1, are in `fail`
+    /// are to fail.
     pub fn new(alloc: Global, fail: Vec<u64>) -> Result<MemoryStore, AllocError>
         ensures files { IfOk result (λ store. (name : _) → stored_files store name ≡ None) }
         ensures asked { IfOk result (λ store. stored_asked store ≡ []) }
-        ensures faults { IfOk result (λ store. ⟦<MemoryStore as Port>⟧.faults store ≡ 0) }
+        ensures faults { IfOk result (λ store. store_faults store ≡ 0) }
         ensures plan { IfOk result (λ store. IsFresh (store_plan store) fail.items) }
-        ensures write_faults { IfOk result (λ store. ⟦<MemoryStore as Store>⟧.write_faults store ≡ 0) }
+        ensures write_faults { IfOk result (λ store. store_write_faults store ≡ 0) }
     {
         Ok(MemoryStore {
             alloc,
@@ -46,12 +47,14 @@ impl MemoryStore {
 
     /// Sets a file. This is no call of `Store` and isn't counted.
     pub fn put_file(&mut self, name: &str, bytes: &[u8]) -> Result<(), AllocError>
-        ensures ok { OnOk result (Writes name.now bytes.now (stored_files self.old) (stored_files self.new)) }
-        ensures err { OnErr result ((other : _) → stored_files self.new other ≡ stored_files self.old other) }
+        ensures ok { OnOk result
+            (Writes name.now bytes.now (stored_files self.old) (stored_files self.new)) }
+        ensures err { OnErr result ((other : _) → stored_files self.new other
+            ≡ stored_files self.old other) }
         ensures same_asked { stored_asked self.new ≡ stored_asked self.old }
         ensures same_plan { store_plan self.new ≡ store_plan self.old }
-        ensures same_faults { ⟦<MemoryStore as Port>⟧.faults self.new ≡ ⟦<MemoryStore as Port>⟧.faults self.old }
-        ensures same_write_faults { ⟦<MemoryStore as Store>⟧.write_faults self.new ≡ ⟦<MemoryStore as Store>⟧.write_faults self.old }
+        ensures same_faults { store_faults self.new ≡ store_faults self.old }
+        ensures same_write_faults { store_write_faults self.new ≡ store_write_faults self.old }
     {
         set_file(self.alloc, &mut self.files, name, bytes)
     }
@@ -131,26 +134,29 @@ impl Port for MemoryStore {
 }
 
 impl Store for MemoryStore {
-    ghost use Rattle.dl_ports.specs.Memory.{stored_files, stored_asked, store_write_faults, store_plan};
+    ghost use Rattle.dl_ports.specs.Memory.{stored_files, told_files, told_asked, store_faults, store_write_faults, store_plan};
 
-    ghost files = { λ store. Some (stored_files store) };
+    ghost files = { told_files };
 
-    ghost asked = { λ store. Some (stored_asked store) };
+    ghost asked = { told_asked };
 
     ghost write_faults = { store_write_faults };
 
     fn read(&mut self, name: &str) -> Result<Option<Vec<u8>>, PortError>
         ensures file { IfOk result (λ file. bytes_of file ≡ stored_files self.old name.now) }
-        ensures asked { OnOk result (Some (stored_asked self.new) ≡ and_name (Some (stored_asked self.old)) name.now) }
+        ensures asked { OnOk result (told_asked self.new
+            ≡ and_name (told_asked self.old) name.now) }
         ensures asked_failed { IsErrOf result PortError.Failed
-            → Some (stored_asked self.new) ≡ and_name (Some (stored_asked self.old)) name.now }
-        ensures asked_or_not { (Some (stored_asked self.new) ≡ Some (stored_asked self.old))
-            ⊎ (Some (stored_asked self.new) ≡ and_name (Some (stored_asked self.old)) name.now) }
-        ensures same_files { Some (stored_files self.new) ≡ Some (stored_files self.old) }
-        ensures cause { HasCause (⟦<MemoryStore as Port>⟧.faults self.old) (⟦<MemoryStore as Port>⟧.faults self.new) result }
+            → told_asked self.new ≡ and_name (told_asked self.old) name.now }
+        ensures asked_or_not { (told_asked self.new ≡ told_asked self.old)
+            ⊎ (told_asked self.new ≡ and_name (told_asked self.old) name.now) }
+        ensures same_files { told_files self.new ≡ told_files self.old }
+        ensures cause { HasCause (store_faults self.old) (store_faults self.new) result }
         ensures same_write_faults { store_write_faults self.new ≡ store_write_faults self.old }
-        ensures same_left { ⟦<MemoryStore as Port>⟧.left self.new ≡ ⟦<MemoryStore as Port>⟧.left self.old }
-        ensures same_written { ⟦<MemoryStore as Port>⟧.written self.new ≡ ⟦<MemoryStore as Port>⟧.written self.old }
+        ensures same_left { ⟦<MemoryStore as Port>⟧.left self.new
+            ≡ ⟦<MemoryStore as Port>⟧.left self.old }
+        ensures same_written { ⟦<MemoryStore as Port>⟧.written self.new
+            ≡ ⟦<MemoryStore as Port>⟧.written self.old }
         ensures plan { GoesByPlan (store_plan self.old) (store_plan self.new) result }
     {
         let fails = self.plan.fails_now();
@@ -166,13 +172,18 @@ impl Store for MemoryStore {
     }
 
     fn write(&mut self, name: &str, bytes: &[u8]) -> Result<(), PortError>
-        ensures written { OnOk result (WhereTold (Writes name.now bytes.now) (Some (stored_files self.old)) (Some (stored_files self.new))) }
-        ensures refused { OnErr result (WhereTold (SameBut name.now) (Some (stored_files self.old)) (Some (stored_files self.new))) }
-        ensures cause { HasCause (store_write_faults self.old) (store_write_faults self.new) result }
-        ensures same_asked { Some (stored_asked self.new) ≡ Some (stored_asked self.old) }
-        ensures same_faults { ⟦<MemoryStore as Port>⟧.faults self.new ≡ ⟦<MemoryStore as Port>⟧.faults self.old }
-        ensures same_left { ⟦<MemoryStore as Port>⟧.left self.new ≡ ⟦<MemoryStore as Port>⟧.left self.old }
-        ensures same_written { ⟦<MemoryStore as Port>⟧.written self.new ≡ ⟦<MemoryStore as Port>⟧.written self.old }
+        ensures written { OnOk result
+            (WhereTold (Writes name.now bytes.now) (told_files self.old) (told_files self.new)) }
+        ensures refused { OnErr result
+            (WhereTold (SameBut name.now) (told_files self.old) (told_files self.new)) }
+        ensures cause { HasCause
+            (store_write_faults self.old) (store_write_faults self.new) result }
+        ensures same_asked { told_asked self.new ≡ told_asked self.old }
+        ensures same_faults { store_faults self.new ≡ store_faults self.old }
+        ensures same_left { ⟦<MemoryStore as Port>⟧.left self.new
+            ≡ ⟦<MemoryStore as Port>⟧.left self.old }
+        ensures same_written { ⟦<MemoryStore as Port>⟧.written self.new
+            ≡ ⟦<MemoryStore as Port>⟧.written self.old }
         ensures plan { GoesByPlan (store_plan self.old) (store_plan self.new) result }
     {
         if self.plan.fails_now() {
@@ -182,15 +193,20 @@ impl Store for MemoryStore {
     }
 
     fn publish(&mut self, from: &str, to: &str) -> Result<(), PortError>
-        requires { ForSome (Some (stored_files self.old)) (λ files. IsSome (files from.now)) }
-        ensures renamed { OnOk result (WhereTold (Renames from.now to.now) (Some (stored_files self.old)) (Some (stored_files self.new))) }
-        ensures refused { OnErr result ((Some (stored_files self.new) ≡ Some (stored_files self.old))
-            ⊎ WhereTold (Renames from.now to.now) (Some (stored_files self.old)) (Some (stored_files self.new))) }
-        ensures cause { HasCause (store_write_faults self.old) (store_write_faults self.new) result }
-        ensures same_asked { Some (stored_asked self.new) ≡ Some (stored_asked self.old) }
-        ensures same_faults { ⟦<MemoryStore as Port>⟧.faults self.new ≡ ⟦<MemoryStore as Port>⟧.faults self.old }
-        ensures same_left { ⟦<MemoryStore as Port>⟧.left self.new ≡ ⟦<MemoryStore as Port>⟧.left self.old }
-        ensures same_written { ⟦<MemoryStore as Port>⟧.written self.new ≡ ⟦<MemoryStore as Port>⟧.written self.old }
+        requires { ForSome (told_files self.old) (λ files. IsSome (files from.now)) }
+        ensures renamed { OnOk result
+            (WhereTold (Renames from.now to.now) (told_files self.old) (told_files self.new)) }
+        ensures refused { OnErr result ((told_files self.new
+            ≡ told_files self.old)
+            ⊎ WhereTold (Renames from.now to.now) (told_files self.old) (told_files self.new)) }
+        ensures cause { HasCause
+            (store_write_faults self.old) (store_write_faults self.new) result }
+        ensures same_asked { told_asked self.new ≡ told_asked self.old }
+        ensures same_faults { store_faults self.new ≡ store_faults self.old }
+        ensures same_left { ⟦<MemoryStore as Port>⟧.left self.new
+            ≡ ⟦<MemoryStore as Port>⟧.left self.old }
+        ensures same_written { ⟦<MemoryStore as Port>⟧.written self.new
+            ≡ ⟦<MemoryStore as Port>⟧.written self.old }
         ensures plan { GoesByPlan (store_plan self.old) (store_plan self.new) result }
     {
         if self.plan.fails_now() {

@@ -11,16 +11,19 @@ pub trait Sink: Port {
     fn put(&mut self, piece: &[u8]) -> Result<usize, PortError>
         ensures bound { IfOk result (λ n. n ≤ length piece.now) }
         ensures some { IfOk result (λ n. 0 < length piece.now → 0 < n) }
-        ensures taken { IfOk result (λ n. Self.written self.new ≡ and_more (Self.written self.old) (take n piece.now)) }
+        ensures taken { IfOk result (λ n. Self.written self.new
+            ≡ and_more (Self.written self.old) (take n piece.now)) }
         ensures refused { OnErr result (Self.written self.new ≡ Self.written self.old) }
         ensures cause { HasCause (Self.faults self.old) (Self.faults self.new) result }
         ensures same_left { Self.left self.new ≡ Self.left self.old };
 }
 
-/// Writes all the bytes. After a refusal a front of them was written, which is shorter than they are unless they are none.
+/// Writes all the bytes. After a refusal a front of them was written, which is shorter than they
+/// are unless they are none.
 pub fn put_all<K: Sink>(sink: &mut K, bytes: &[u8]) -> Result<(), PortError>
     ensures written { OnOk result (K.written sink.new ≡ and_more (K.written sink.old) bytes.now) }
-    ensures refused { OnErr result (WritesPart (K.written sink.old) bytes.now (K.written sink.new)) }
+    ensures refused { OnErr result
+        (WritesPart (K.written sink.old) bytes.now (K.written sink.new)) }
     ensures cause { HasCause (K.faults sink.old) (K.faults sink.new) result }
     ensures same_left { K.left sink.new ≡ K.left sink.old }
 {

@@ -22,8 +22,8 @@ pub struct TcpLink<S: Read + Write + Drop> {
 }
 
 impl<R: Net> TcpDoor<R> {
-    /// A door at this port of the machine's own addresses. It has no listener where the port is `None` or can't be bound, and
-    /// then each `accept` fails.
+    /// A door at this port of the machine's own addresses. It has no listener where the port is
+    /// `None` or can't be bound, and then each `accept` fails.
     pub fn new(rt: &R, port: Option<u16>) -> TcpDoor<R>
         ensures lent { ⟦<TcpDoor<R> as Door>⟧.lent result ≡ 0 }
         ensures faults { ⟦<TcpDoor<R> as Port>⟧.faults result ≡ 0 }

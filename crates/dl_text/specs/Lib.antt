@@ -2,3 +2,4 @@ pub mod Place
 pub mod Quote
 pub mod Utf16
 pub mod Fault
+pub mod Shared

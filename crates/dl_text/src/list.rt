@@ -28,3 +28,9 @@ pub trait TryCopy {
         Self: Sized,
         ensures { IfOk result (λ copy. copy ≡ self.now) };
 }
+
+impl TryCopy for u16 {
+    fn copy(&self, _: Global) -> Result<u16, AllocError> {
+        Ok(*self)
+    }
+}

@@ -42,8 +42,9 @@ pub fn push_quoted_unit(text: &mut Text, unit: u16) -> Result<(), AllocError>
     }
 }
 
-/// The shown string of a text: in double quotes, units from 0x20 to 0x7E as they are, with a backslash before `"` and
-/// before the backslash, and every other unit as `\u` and four lower-case hexadecimal digits.
+/// The shown string of a text: in double quotes, units from 0x20 to 0x7E as they are, with a
+/// backslash before `"` and before the backslash, and every other unit as `\u` and four lower-case
+/// hexadecimal digits.
 pub fn quote_units(alloc: Global, units: &Units) -> Result<Text, AllocError>
     ensures { IfOk result (λ text. text ≡ quoted units.now) }
 {

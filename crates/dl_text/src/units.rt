@@ -1,23 +1,27 @@
-ghost use Rattle.std.specs.Prelude.{◌≡◌, ◌<◌, [], ◌∷◌, ◌++◌, IfOk, OnOk, OnErr};
+ghost use Rattle.std.specs.Prelude.{◌≡◌, ◌<◌, [], ◌∷◌, ◌++◌, OnOk, OnErr};
 ghost use Rattle.std.specs.Char.Escape.{encode_utf16};
 
-use crate::list::{Listed, TryCopy};
-use sqlite_items::Items;
+use crate::list::TryCopy;
+use crate::shared::Shared;
 use std::alloc::{AllocError, Global};
 use std::marker::Model;
+use std::mem::size_of;
 
-/// A text as a script sees it: a list of UTF-16 units (ES3 section 6).
+/// A text as a script sees it: a list of UTF-16 units (ES3 section 6). A copy takes constant time.
 #[derive(Debug, Drop)]
 pub struct Units {
-    units: Vec<u16>,
+    units: Shared<u16>,
 }
+
+// The trees and the values of a script hold many.
+const _: () = prove!(size_of::<Units>() <= 16);
 
 impl Model for Units {
     ghost use Rattle.std.specs.Prelude.{List, ℕ};
 
     ghost Value = { List ℕ };
 
-    ghost view = { λ text. text.units.items };
+    ghost view = { λ text. text.units };
 }
 
 impl Units {
@@ -26,7 +30,7 @@ impl Units {
         ensures { result ≡ [] }
     {
         Units {
-            units: Vec::new(alloc),
+            units: Shared::new(alloc),
         }
     }
 
@@ -35,11 +39,11 @@ impl Units {
         ensures ok { OnOk result (self.new ≡ self.old ++ unit ∷ []) }
         ensures err { OnErr result (self.new ≡ self.old) }
     {
-        self.units.push(unit)?;
-        Ok(())
+        self.units.push(unit)
     }
 
-    /// Adds the one or two units of a code point at the end; a surrogate is its own. A refusal may leave the first of two.
+    /// Adds the one or two units of a code point at the end; a surrogate is its own. A refusal may
+    /// leave the first of two.
     pub fn push_code_point(&mut self, code_point: u32) -> Result<(), AllocError>
         requires { code_point < 0x11_0000 }
         ensures { OnOk result (self.new ≡ self.old ++ encode_utf16 code_point) }
@@ -60,21 +64,8 @@ impl Units {
 }
 
 impl TryCopy for Units {
-    fn copy(&self, alloc: Global) -> Result<Units, AllocError> {
-        let units = Vec::from_slice(alloc, self.units.as_slice())?;
+    fn copy(&self, _: Global) -> Result<Units, AllocError> {
+        let units = self.units.share()?;
         Ok(Units { units })
-    }
-}
-
-/// A list of names.
-pub type Names = Items<Units>;
-
-impl TryCopy for Items<Units> {
-    fn copy(&self, alloc: Global) -> Result<Names, AllocError> {
-        let mut copy = Items::new(alloc);
-        for name in self.items() {
-            copy.push(name.copy(alloc)?)?;
-        }
-        Ok(copy)
     }
 }

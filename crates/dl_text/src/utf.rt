@@ -15,11 +15,13 @@ pub enum TextError {
     OutOfMemory,
 }
 
-/// The text that the bytes spell in UTF-8. Bytes that spell none are refused before any memory is taken.
+/// The text that the bytes spell in UTF-8. Bytes that spell none are refused before any memory is
+/// taken.
 pub fn text_of(alloc: Global, bytes: &[u8]) -> Result<String, TextError>
     ensures ok { IfOk result (λ text. string_bytes text ≡ bytes.now) }
     ensures err { IfErr result (IsFaultOf bytes.now) }
-    ensures not_utf8 { IsErrOf result (TextError.NotUtf8 (utf8_valid_len bytes.now)) ↔ (¬ (IsUtf8 bytes.now)) }
+    ensures not_utf8 { IsErrOf result (TextError.NotUtf8 (utf8_valid_len bytes.now))
+        ↔ (¬ (IsUtf8 bytes.now)) }
 {
     match str::from_utf8(bytes) {
         Ok(text) => String::from_str(alloc, text).map_err(|_| TextError::OutOfMemory),

@@ -1,8 +1,8 @@
--- The words of a command, by their count.
+-- The words of a command, by how many they are.
 use Rattle.std.proofs.Common.{◌≡◌, ℕ, suc, List, [], ◌∷◌, length, map, None, refl, get_or, arith}
 use Rattle.std.specs.Prelude.{String, string_bytes}
 use Rattle.std.specs.declared.alloc.Global.{Global}
-use Rattle.doloto_app.specs.Words.{paths}
+use Rattle.doloto_app.specs.Words.{command_of}
 
 four : (n : ℕ) → suc (suc (suc (suc n))) ≡ 3 → ⊥
 four n h = omega (arith, h)
@@ -14,7 +14,7 @@ three_words (a ∷ b ∷ []) d e f h = cc
 three_words (a ∷ b ∷ c ∷ []) d e f h = refl
 three_words (a ∷ b ∷ c ∷ x ∷ xs) d e f h = absurd (four (length xs) h)
 
-pub other_words : (ws : List (String Global)) → (length ws ≡ 3 → ⊥) → paths (map string_bytes ws) ≡ None
+pub other_words : (ws : List (String Global)) → (length ws ≡ 3 → ⊥) → command_of (map string_bytes ws) ≡ None
 other_words [] h = refl
 other_words (a ∷ []) h = refl
 other_words (a ∷ b ∷ []) h = refl

@@ -1,7 +1,8 @@
 //! The program: its commands over the ports of the system.
 //!
-//! `doloto_top` reads the words of the command, plays the site over a store, and writes the report to a sink; of `play` it may know what
-//! `play_page` promises. Main alone makes the ports of the system, prints why a command was refused, and ends with the status's number.
+//! `doloto_top` reads the words of the command, plays the site over a store, and writes the report
+//! to a sink; of `play` it may know what `play_page` promises. Main alone makes the ports of the
+//! system, prints why a command was refused, and ends with the status's number.
 #![tactic(auto)]
 
 mod status;

@@ -1,22 +1,24 @@
-ghost use Rattle.std.specs.Prelude.{◌≡◌, ◌≤◌, ◌⊎◌, true, false, List, ℕ, Some, None, map, string_bytes, IfOk, IfErr};
-ghost use Rattle.dl_ports.specs.Counts.{Rose};
+ghost use Rattle.std.specs.Prelude.{◌≡◌, ◌⊎◌, ◌↔◌, List, ℕ, None};
+ghost use Rattle.std.specs.Option.{ForSome};
+ghost use Rattle.dl_ports.specs.Counts.{CountsFault};
 ghost use Rattle.dl_ports.specs.Files.{Files};
-ghost use Rattle.dl_ports.specs.Streams.{and_more, WritesPart};
+ghost use Rattle.dl_ports.specs.Stores.{OnlyReads};
 ghost use Rattle.js_tree.specs.Tree.{Script};
 ghost use Rattle.play.specs.Headline.{PutsBackTo};
 ghost use Rattle.play.specs.Played.{Gives, played_page};
 ghost use Rattle.play.specs.declared.outcome.End.{End as AnEnd};
-ghost use Rattle.doloto_app.specs.Words.{paths};
-ghost use Rattle.doloto_app.specs.Ends.{Ends, is_words, MayPut, WritesLoads, WritesOriginal, status_of, status_of_end};
+ghost use Rattle.doloto_app.specs.Words.{Commands, Play, default_steps, said};
+ghost use Rattle.doloto_app.specs.Ends.{Ends, MayPut, NoFault, Puts, WritesLoads, WritesOriginal};
+ghost use Rattle.doloto_app.specs.Ends.{status_of, status_of_end};
 
 use crate::status::{Refusal, Status};
 use crate::words::{WordFault, play_paths};
 use dl_ports::{PortError, Sink, Store, put_all};
-use play::{End, FirstError, play_page};
+use play::{End, FirstError, Outcome, play_page};
 use std::alloc::Global;
 
-/// The steps that a run may take.
-const STEPS: u64 = 10_000_000;
+/// The steps that a run may take where the words do not say how many.
+const DEFAULT_STEPS: u64 = 10_000_000;
 
 /// The status of a play that has no report.
 fn status_of(error: FirstError) -> Status
@@ -30,6 +32,22 @@ fn status_of(error: FirstError) -> Status
     }
 }
 
+/// Writes the report of an outcome. The status is that of its end.
+fn write_report<K: Sink>(outcome: &Outcome, out: &mut K) -> Status
+    ensures puts { Puts outcome.now (K.written out.old) (K.written out.new) result }
+    ensures writes { CountsFault (result ≡ Status.WriteFault)
+        (K.faults out.old) (K.faults out.new) }
+{
+    match put_all(out, outcome.report.items()) {
+        Err(PortError::Failed) => Status::WriteFault,
+        Err(PortError::OutOfMemory) => Status::OutOfMemory,
+        Ok(()) => match outcome.end {
+            End::Ended => Status::Ended,
+            End::OutOfSteps => Status::OutOfSteps,
+        },
+    }
+}
+
 /// Plays the site of a folder for a page, and writes the report once it is whole.
 fn play_out<S: Store, K: Sink>(
     alloc: Global,
@@ -38,51 +56,68 @@ fn play_out<S: Store, K: Sink>(
     store: &mut S,
     out: &mut K,
 ) -> Status
-    ensures plays { (files : Files) → S.files store.old ≡ Some files → Ends (played_page files site.now page.now 10000000) (S.asked store.old) (S.asked store.new) (K.written out.old) (K.written out.new) result }
-    ensures same_files { S.files store.new ≡ S.files store.old }
-    ensures same_write_faults { S.write_faults store.new ≡ S.write_faults store.old }
-    ensures later { (S.faults store.old ≤ S.faults store.new) × (K.faults out.old ≤ K.faults out.new) }
-    ensures read_cause { result ≡ Status.ReadFault → Rose (S.faults store.old) (S.faults store.new) }
-    ensures write_cause { result ≡ Status.WriteFault → Rose (K.faults out.old) (K.faults out.new) }
+    ensures plays { ForSome (S.files store.old) (λ files.
+        Ends (played_page files site.now page.now default_steps)
+        (S.asked store.old) (S.asked store.new)
+        (K.written out.old) (K.written out.new) result) }
+    ensures headline { ForSome (S.files store.old) (λ files.
+        (script : Script) → PutsBackTo files site.now script
+        → WritesOriginal (K.written out.old) (K.written out.new) script default_steps result) }
+    ensures laziness { ForSome (S.files store.old) (λ files.
+        (script : Script) (back : PutsBackTo files site.now script)
+        → WritesLoads (K.written out.old) (K.written out.new)
+        back.manifest script default_steps result) }
+    ensures reads { OnlyReads S.Store store.old store.new (result ≡ Status.ReadFault) }
+    ensures writes { CountsFault (result ≡ Status.WriteFault)
+        (K.faults out.old) (K.faults out.new) }
     ensures nothing_put { MayPut result (K.written out.old) (K.written out.new) }
-    ensures not_words { is_words result ≡ false }
+    ensures not_words { result ≡ Status.Words WordFault.First → ⊥ }
 {
-    match play_page(alloc, page, site, STEPS, store) {
+    match play_page(alloc, page, site, DEFAULT_STEPS, store) {
         Err(error) => status_of(error),
-        Ok(outcome) => match put_all(out, outcome.report.items()) {
-            Err(PortError::Failed) => Status::WriteFault,
-            Err(PortError::OutOfMemory) => Status::OutOfMemory,
-            Ok(()) => match outcome.end {
-                End::Ended => Status::Ended,
-                End::OutOfSteps => Status::OutOfSteps,
-            },
-        },
+        Ok(outcome) => write_report(&outcome, out),
     }
 }
 
 /// Runs the command of the words, over these ports.
 ///
-/// `play SITE PAGE` reads the page and the files of the site, and writes the report to `out` once it is whole. Other words are refused.
-/// Where the site's files put back to a script, the report shows that script's host calls and uncaught exceptions, and waits for each
-/// cluster where that script first enters one of its functions.
-#[tactic(auto, using(crate::proofs::Whole::writes_original))]
+/// `play SITE PAGE` reads the page and the files of the site, and writes the report to `out` once
+/// it is whole. Other words are refused. Where the site's files put back to a script, the report
+/// shows that script's host calls and uncaught exceptions, and waits for each cluster where that
+/// script first enters one of its functions.
 pub fn doloto_top<S: Store, K: Sink>(
     alloc: Global,
     words: &[String],
     store: &mut S,
     out: &mut K,
 ) -> Status
-    ensures other_words { paths (map string_bytes words.now) ≡ None → (result ≡ Status.Words WordFault.First) × (S.asked store.new ≡ S.asked store.old) × (K.written out.new ≡ K.written out.old) }
-    ensures words_cause { is_words result ≡ true → paths (map string_bytes words.now) ≡ None }
-    ensures complete { (site page : List ℕ) → paths (map string_bytes words.now) ≡ Some (site, page) → (files : Files) → S.files store.old ≡ Some files → (report : List ℕ) (e : AnEnd) → (played_page files site page 10000000).answer ≡ Gives report e → (Rose (S.faults store.old) (S.faults store.new) → ⊥) → (Rose (K.faults out.old) (K.faults out.new) → ⊥) → (result ≡ status_of_end e) ⊎ (result ≡ Status.OutOfMemory) }
-    ensures plays { (site page : List ℕ) → paths (map string_bytes words.now) ≡ Some (site, page) → (files : Files) → S.files store.old ≡ Some files → Ends (played_page files site page 10000000) (S.asked store.old) (S.asked store.new) (K.written out.old) (K.written out.new) result }
-    ensures headline { (site page : List ℕ) → paths (map string_bytes words.now) ≡ Some (site, page) → (files : Files) → S.files store.old ≡ Some files → (script : Script) → PutsBackTo files site script → WritesOriginal (K.written out.old) (K.written out.new) script 10000000 result }
-    ensures laziness { (site page : List ℕ) → paths (map string_bytes words.now) ≡ Some (site, page) → (files : Files) → S.files store.old ≡ Some files → (script : Script) (back : PutsBackTo files site script) → WritesLoads (K.written out.old) (K.written out.new) back.manifest script 10000000 result }
-    ensures same_files { S.files store.new ≡ S.files store.old }
-    ensures same_write_faults { S.write_faults store.new ≡ S.write_faults store.old }
-    ensures later { (S.faults store.old ≤ S.faults store.new) × (K.faults out.old ≤ K.faults out.new) }
-    ensures read_cause { result ≡ Status.ReadFault → Rose (S.faults store.old) (S.faults store.new) }
-    ensures write_cause { result ≡ Status.WriteFault → Rose (K.faults out.old) (K.faults out.new) }
+    ensures words { (result ≡ Status.Words WordFault.First) ↔ (said words.now ≡ None) }
+    ensures nothing_asked { said words.now ≡ None → S.asked store.new ≡ S.asked store.old }
+
+    ensures plays { (site page : List ℕ) (files : Files)
+        → Commands S.Store store.old words.now (Play site page) files
+        → Ends (played_page files site page default_steps)
+        (S.asked store.old) (S.asked store.new)
+        (K.written out.old) (K.written out.new) result }
+    ensures complete { (site page : List ℕ) (files : Files) (report : List ℕ) (e : AnEnd)
+        → Commands S.Store store.old words.now (Play site page) files
+        → (played_page files site page default_steps).answer ≡ Gives report e
+        → NoFault (S.faults store.old) (S.faults store.new)
+        → NoFault (K.faults out.old) (K.faults out.new)
+        → (result ≡ status_of_end e) ⊎ (result ≡ Status.OutOfMemory) }
+    ensures headline { (site page : List ℕ) (files : Files) (script : Script)
+        → Commands S.Store store.old words.now (Play site page) files
+        → PutsBackTo files site script
+        → WritesOriginal (K.written out.old) (K.written out.new) script default_steps result }
+    ensures laziness { (site page : List ℕ) (files : Files) (script : Script)
+        → Commands S.Store store.old words.now (Play site page) files
+        → (back : PutsBackTo files site script)
+        → WritesLoads (K.written out.old) (K.written out.new)
+        back.manifest script default_steps result }
+
+    ensures reads { OnlyReads S.Store store.old store.new (result ≡ Status.ReadFault) }
+    ensures writes { CountsFault (result ≡ Status.WriteFault)
+        (K.faults out.old) (K.faults out.new) }
     ensures nothing_put { MayPut result (K.written out.old) (K.written out.new) }
 {
     let Some((site, page)) = play_paths(words) else {

@@ -1,5 +1,5 @@
-ghost use Rattle.std.specs.Prelude.{◌≡◌, Some, None, map, string_bytes, MatchOption, not, nat_eq};
-ghost use Rattle.doloto_app.specs.Words.{is_path, paths};
+ghost use Rattle.std.specs.Prelude.{◌≡◌, Some, None, MatchOption};
+ghost use Rattle.doloto_app.specs.Words.{Play, is_path, said};
 
 /// What is wrong with the words of a command.
 #[derive(Clone, Copy, Debug, PartialEq, Eq)]
@@ -21,7 +21,9 @@ fn is_path(word: &str) -> bool
 /// The folder of the site and the page's file, where the words are `play` and two paths.
 #[tactic(auto, using(crate::proofs::Counts::three_words, crate::proofs::Counts::other_words))]
 pub fn play_paths<'a>(words: &'a [String]) -> Option<(&'a str, &'a str)>
-    ensures { MatchOption result (paths (map string_bytes words.now) ≡ None) (λ p. paths (map string_bytes words.now) ≡ Some (p.0.now, p.1.now)) }
+    ensures { MatchOption result
+        (said words.now ≡ None)
+        (λ paths. said words.now ≡ Some (Play paths.0.now paths.1.now)) }
 {
     if words.len() != 3 {
         return None;

@@ -16,7 +16,8 @@ use Rattle.js_lexer.specs.declared.token.TokenKind.{TokenKind}
 use Rattle.js_lexer.specs.declared.token.TokenKind.TheVariants as k
 use Rattle.js_tree.specs.Tree.{Name}
 use Rattle.js_grammar.specs.declared.form.Form.{Form}
-use Rattle.js_grammar.specs.Names.{key_of, may_stand, is_own, is_cell, is_written, is_numeral, is_function_number}
+use Rattle.js_tree.specs.Numbering.{is_function_number}
+use Rattle.js_grammar.specs.Names.{key_of, may_stand, is_own, is_cell, is_written, is_numeral}
 use Rattle.js_grammar.specs.Printed.{key_kind}
 
 -- ---- numbers

@@ -17,7 +17,8 @@ use Rattle.js_grammar.specs.declared.form.Form.TheVariants.{Source, Written}
 use Rattle.js_grammar.specs.Symbols.{Symbol, Symbols}
 use Rattle.js_grammar.specs.Operators.{Operator, LogicalOr, LogicalAnd, Operation, joined, level, may_operate, changes, is_target}
 use Rattle.js_lexer.specs.Words.{is_spelled}
-use Rattle.js_grammar.specs.Names.{get_name, is_function_number, key_of, is_eval, is_reference, is_binding, is_property, is_among, is_distinct}
+use Rattle.js_tree.specs.Numbering.{is_function_number}
+use Rattle.js_grammar.specs.Names.{get_name, key_of, is_eval, is_reference, is_binding, is_property, is_among, is_distinct}
 use Rattle.js_grammar.specs.Contexts.{Context}
 use Rattle.js_grammar.specs.Contexts as context
 use Rattle.js_grammar.specs.Grammar.{code}

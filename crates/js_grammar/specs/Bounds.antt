@@ -1,17 +1,11 @@
 -- The bounds of scripts.
 use Rattle.std.specs.Prelude.{ℕ}
+use Rattle.js_tree.specs.Numbering.{last_function_number}
 use Rattle.js_grammar.specs.declared.form.Limits.{Limits}
-
--- the numbers of functions
-abbrev pub first_number : ℕ
-first_number = 1
-
-abbrev pub last_number : ℕ
-last_number = 65535
 
 -- the functions of all scripts of a source: each has a number
 abbrev pub source_functions : ℕ
-source_functions = last_number
+source_functions = last_function_number
 
 -- the functions of a script file or an entry of a site
 abbrev pub written_functions : ℕ

@@ -21,7 +21,8 @@ use Rattle.js_grammar.specs.declared.form.Form.{Form}
 use Rattle.js_grammar.specs.declared.form.Form.TheVariants.{Written}
 use Rattle.js_grammar.specs.Symbols.{Symbol, Symbols, of_kind, word, mark, name, number, number_in, string, first}
 use Rattle.js_grammar.specs.Operators.{Operator, joined, sign, level, may_operate, prefix_sign, changes, postfix_sign, assignment, is_target}
-use Rattle.js_grammar.specs.Names.{get_name, is_function_number, is_reference, is_binding, is_property, key_of, is_among, is_distinct}
+use Rattle.js_tree.specs.Numbering.{is_function_number}
+use Rattle.js_grammar.specs.Names.{get_name, is_reference, is_binding, is_property, key_of, is_among, is_distinct}
 use Rattle.js_grammar.specs.Contexts.{Context, part, loop, clause, labelled}
 use Rattle.js_grammar.specs.Contexts as context
 use Rattle.js_grammar.specs.Ends.{reach, list_reach, Ends, EndsAtOnce}

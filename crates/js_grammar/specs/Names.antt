@@ -8,7 +8,7 @@ use Rattle.js_lexer.specs.declared.token.TokenKind.{TokenKind}
 use Rattle.js_lexer.specs.declared.token.TokenKind.TheVariants as k
 use Rattle.js_tree.specs.Tree.{Name}
 use Rattle.js_grammar.specs.declared.form.Form.{Form}
-use Rattle.js_grammar.specs.Bounds.{first_number, last_number}
+use Rattle.js_tree.specs.Numbering.{is_function_number}
 use Rattle.js_grammar.specs.declared.form.Form.TheVariants.{Source, Written}
 
 abbrev pub is_eval : Name → Bool
@@ -36,11 +36,7 @@ get_name = codes "$dl_get"
 abbrev pub is_own : Name → Bool
 is_own = begins (codes "$dl_")
 
--- a number of a function
-abbrev pub is_function_number : ℕ → Bool
-is_function_number n = nat_le first_number n && nat_le n last_number
-
--- such a number in decimal, without a leading zero
+-- the number of a function in decimal, without a leading zero
 abbrev pub is_numeral : List ℕ → Bool
 is_numeral digits = list_all is_digit digits && (not (first_is (λ c. nat_le c 48) digits) && is_function_number (number_of 10 digits))
 

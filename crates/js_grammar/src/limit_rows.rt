@@ -7,7 +7,7 @@ ghost use Rattle.js_lexer.specs.declared.token.TokenKind.TheVariants as k;
 ghost use Rattle.js_tree.specs.TreeRows as small;
 ghost use Rattle.js_grammar.specs.declared.form.Construct.TheVariants as c;
 ghost use Rattle.js_grammar.specs.declared.form.Form.TheVariants.{Source, Written};
-ghost use Rattle.js_grammar.specs.Bounds.{first_number, in_site, in_source, last_number, source_limits};
+ghost use Rattle.js_grammar.specs.Bounds.{in_site, in_source, source_limits};
 ghost use Rattle.js_grammar.specs.Symbols.{is_in_decimal};
 ghost use Rattle.js_grammar.specs.Heights.{expr_height, stmt_height};
 ghost use Rattle.js_grammar.specs.Depth.{by_functions, by_nodes, depth, nesting};
@@ -16,6 +16,7 @@ ghost use Rattle.js_grammar.specs.HeightRows as height;
 ghost use Rattle.js_grammar.specs.FaultRows as row;
 ghost use Rattle.js_grammar.specs.RefusedRows.{place};
 ghost use Rattle.js_grammar.specs.TextRows.{tokens};
+ghost use Rattle.js_tree.specs.Numbering.{first_function_number, last_function_number};
 ghost use Rattle.js_tree.specs.Tree.{NoStmts};
 
 /// How deep a node is, by the depth of one of its parts.
@@ -61,8 +62,8 @@ pub fn bounds()
     ensures of_a_source { in_source ≡ record { depth = 400; nesting = 64; brackets = 400; functions = 65535 } }
     ensures of_a_site { in_site ≡ record { depth = 800; nesting = 66; brackets = 800; functions = 196605 } }
     ensures of_what_is_left { source_limits 3 ≡ record { depth = 400; nesting = 64; brackets = 400; functions = 3 } }
-    ensures first_is { first_number ≡ 1 }
-    ensures last_is { last_number ≡ 65535 }
+    ensures first_is { first_function_number ≡ 1 }
+    ensures last_is { last_function_number ≡ 65535 }
 {}
 
 /// A script keeps its limits where it is at each at most.

@@ -36,3 +36,6 @@ take_all (suc n) (c ∷ cs) l = ap (λ ds. c ∷ ds) (take_all n cs (omega arith
 -- what stands from a place on
 pub rest_of : (cs : List ℕ) (i : ℕ) → take (length cs - i) (drop i cs) ≡ drop i cs
 rest_of cs i = take_all (length cs - i) (drop i cs) (omega (arith, length-drop i cs))
+
+-- the lemmas of a test of a front, character by character
+pub ruleset beginning = (begins_more, begins_short, begins_all)

@@ -4,6 +4,7 @@ use Rattle.std.specs.List.{list_all}
 use Rattle.std.proofs.lemmas.Bool.Decides.{nat_tests}
 use Rattle.dl_text.specs.Utf16.{utf16}
 use Rattle.js_lexer.specs.Characters.{continues_name, begins_name, is_digit, is_hex_digit, is_at, first_is, run, begins, in_line, number_of}
+use Rattle.js_lexer.specs.Words.{is_spelled}
 use Rattle.js_lexer.specs.Marks.{spelling, marks, front_mark}
 use Rattle.js_lexer.specs.Fronts as f
 use Rattle.js_lexer.specs.Fronts.{StandsAt, IsInside, string_end, front_by, is_quote, is_blank, name_kind, word_or_name, after_number, is_hex_number}
@@ -18,7 +19,7 @@ use Rattle.js_lexer.specs.declared.token.LexKind.{LexKind}
 use Rattle.js_lexer.specs.declared.token.LexKind.TheVariants as k
 use Rattle.js_lexer.specs.declared.token.TokenKind.{TokenKind}
 use Rattle.js_lexer.specs.declared.token.TokenKind.TheVariants as t
-use Rattle.js_lexer.proofs.Within.{front_case, stands_within, find_passes}
+use Rattle.js_lexer.proofs.Within.{front_case, stands_within, find_passes, continues_first}
 use Rattle.js_lexer.proofs.Longest.{plain, run_bound, digit_front, digit_quote, not_hex, name_front, name_quote, comment_append, inside_append, length_dropped, drop_append, begins_self, mark_found, longest_piece}
 use Rattle.js_lexer.proofs.PieceLaws.{same_number, left, right, run_all, run_suc, two_more, length_taken, begins_take, a_piece_stands}
 

@@ -8,6 +8,11 @@ use Rattle.js_lexer.specs.declared.position.Position.{Position}
 use Rattle.js_lexer.specs.declared.token.Token.{Token}
 use Rattle.js_lexer.specs.declared.token.TokenKind.{TokenKind}
 
+-- at the start of a text, of whose bytes so many stand before it
+abbrev pub at_start : ℕ → Position
+at_start bytes =
+    record { bytes = bytes; place = record { line = 1; column = 1 }; after_return = false }
+
 -- behind one more character: a line feed behind a carriage return changes no place
 abbrev pub place_past : Bool → ℕ → Place → Place
 place_past after_return c place =

@@ -126,7 +126,7 @@ pub fn hex_digits_length(text: &[char]) -> usize
 }
 
 /// Whether the text begins with the spelling, which is ASCII.
-#[tactic(auto, using(crate::proofs::Fronts::begins_more, crate::proofs::Fronts::begins_short, crate::proofs::Fronts::begins_all))]
+#[tactic(auto, using(crate::proofs::Fronts::beginning))]
 pub fn begins(spelling: &str, text: &[char]) -> bool
     ensures { result ≡ spec.begins spelling.now text.now }
 {
@@ -145,7 +145,7 @@ pub fn begins(spelling: &str, text: &[char]) -> bool
 }
 
 /// Whether the units begin with the spelling, which is ASCII.
-#[tactic(auto, using(crate::proofs::Fronts::begins_more, crate::proofs::Fronts::begins_short, crate::proofs::Fronts::begins_all))]
+#[tactic(auto, using(crate::proofs::Fronts::beginning))]
 pub fn units_begin(spelling: &str, units: &[u16]) -> bool
     ensures { result ≡ spec.begins spelling.now units.now }
 {

@@ -17,7 +17,8 @@ use std::alloc::{AllocError, Global};
 /// What stands at a place of a text.
 #[derive(Debug, Drop)]
 pub enum Front {
-    /// A piece of so many characters, and what token it is. White space, line terminators and comments are none.
+    /// A piece of so many characters, and what token it is. White space, line terminators and
+    /// comments are none.
     Next(usize, Option<TokenKind>),
     /// A fault, and how many characters stand before its place.
     Bad(LexKind, usize),
@@ -109,7 +110,8 @@ fn slash(text: &[char], rest: &[char]) -> Front
     }
 }
 
-/// What stands at the front of a text that begins with no quote, but with this character before this rest.
+/// What stands at the front of a text that begins with no quote, but with this character before
+/// this rest.
 fn front_by(alloc: Global, text: &[char], c: char, rest: &[char]) -> Result<Front, AllocError>
     requires { text.now ≡ c ∷ rest.now }
     ensures { IfOk result (λ front. front ≡ spec.front_by c rest.now) }

@@ -1,4 +1,5 @@
-//! What holds of every text. These calls do nothing: each says a law of the tokens that `lex` answers.
+//! What holds of every text. These calls do nothing: each says a law of the tokens that `lex`
+//! answers.
 
 ghost use Rattle.js_lexer.specs.Laws as law;
 
@@ -27,8 +28,8 @@ pub fn one_fault()
     ensures { law.OneFault }
 {}
 
-/// At each place, what reading from the first character on finds to be a piece is the longest that is allowed there, and the
-/// other way round.
+/// At each place, what reading from the first character on finds to be a piece is the longest that
+/// is allowed there, and the other way round.
 pub fn reading_finds_the_next_piece()
     ensures { law.ReadingFindsTheNextPiece }
 {}

@@ -1,6 +1,6 @@
 ghost use Rattle.std.specs.Prelude.{◌≡◌, ◌-◌, ◌<◌, ◌^◌, false, length, IfOk, IfErr, encode_utf8_all};
 ghost use Rattle.std.specs.Str.{chars};
-ghost use Rattle.js_lexer.specs.Position.{IsBounded};
+ghost use Rattle.js_lexer.specs.Position.{IsBounded, at_start, passed, tokens_at};
 ghost use Rattle.js_lexer.specs.Tokens as spec;
 
 use crate::front::{Front, read_front};
@@ -27,7 +27,7 @@ fn body(text: &[char]) -> &[char]
 
 /// Where the text begins.
 fn body_position(text: &[char]) -> Position
-    ensures value { result ≡ record { bytes = spec.body_start text.now; place = record { line = 1; column = 1 }; after_return = false } }
+    ensures value { result ≡ at_start (spec.body_start text.now) }
     ensures bounded { IsBounded result }
 {
     let bytes = match text {

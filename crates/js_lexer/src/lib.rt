@@ -1,10 +1,11 @@
 //! The tokens of a script (ES3 section 7).
 //!
-//! `lex` cuts a text into white space, line terminators, comments and tokens, each the longest piece that is allowed at its
-//! place, and answers the tokens or the first fault from the left. The layers above may know of it the definitions of
-//! `specs/Tokens.antt`: which lists of tokens are those of a text, and which fault is its first. The laws say that every text
-//! has exactly one answer. `is_name` tells the names that are no words. How the text is read, and where reading stands, stays
-//! here.
+//! `lex` cuts a text into white space, line terminators, comments and tokens, each the longest
+//! piece that is allowed at its place, and answers the tokens or the first fault from the left. The
+//! layers above may know of it the definitions of `specs/Tokens.antt`: which lists of tokens are
+//! those of a text, and which fault is its first. The laws say that every text has exactly one
+//! answer. `is_name` tells the names that are no words. How the text is read, and where reading
+//! stands, stays here.
 #![tactic(auto)]
 
 mod characters;

@@ -12,7 +12,8 @@ fn is_pair(high: u16, low: u16) -> bool
     (0xd800..0xdc00).contains(&high) && (0xdc00..0xe000).contains(&low)
 }
 
-/// The character at the front, and how many units it takes: none at a surrogate that has no partner.
+/// The character at the front, and how many units it takes: none at a surrogate that has no
+/// partner.
 fn character_at(units: &[u16]) -> Option<(char, usize)>
     ensures value { result ≡ spec.character_at units.now }
     ensures within { IfSome result (λ c. (0 < c.1) × (c.1 ≤ length units.now)) }

@@ -23,7 +23,8 @@ fn digit_of(base: u32, digit: char) -> u32
 fn value_of(base: u32, digits: &[char]) -> u64
     requires least { 2 ≤ base }
     requires most { base ≤ 36 }
-    requires digits { (i : ℕ) → i < length digits.now → digit_value (slice_index digits.now i) < base }
+    requires digits { (i : ℕ) → i < length digits.now
+        → digit_value (slice_index digits.now i) < base }
     ensures { result ≡ min (2 ^ 53) (number_of base digits.now) }
 {
     let mut value = 0u64;
@@ -61,7 +62,8 @@ fn after_number(hex: bool, rest: &[char]) -> Option<LexKind>
 }
 
 fn tested_number(length: usize, value: u64, fault: Option<LexKind>) -> Front
-    ensures { (exact : ℕ) → value ≡ min (2 ^ 53) exact → result ≡ spec.tested_number length exact fault }
+    ensures { (exact : ℕ) → value ≡ min (2 ^ 53) exact
+        → result ≡ spec.tested_number length exact fault }
 {
     match fault {
         Some(kind) => Front::Bad(kind, 0),

@@ -1,11 +1,12 @@
-ghost use Rattle.std.specs.Prelude.{◌≡◌, ◌+◌, ◌-◌, ◌<◌, ◌^◌, false, length, encode_utf8_all};
+ghost use Rattle.std.specs.Prelude.{◌≡◌, ◌+◌, ◌-◌, ◌≤◌, ◌<◌, ◌^◌, false, length, encode_utf8_all};
 ghost use Rattle.std.specs.Char.{len_utf8};
 ghost use Rattle.js_lexer.specs.Position as spec;
 
 use crate::characters::is_line_terminator;
 use dl_text::Place;
 
-/// Where reading stands in a text: the bytes behind it, the place, and whether the last character was a carriage return.
+/// Where reading stands in a text: the bytes behind it, the place, and whether the last character
+/// was a carriage return.
 #[derive(Clone, Copy, Debug)]
 pub struct Position {
     pub bytes: usize,
@@ -39,7 +40,7 @@ fn place_past(after_return: bool, c: char, place: Place) -> Place
 impl Position {
     /// Where a text begins, behind so many bytes.
     pub fn start(bytes: usize) -> Position
-        ensures { result ≡ record { bytes = bytes; place = record { line = 1; column = 1 }; after_return = false } }
+        ensures { result ≡ spec.at_start bytes }
     {
         Position {
             bytes,

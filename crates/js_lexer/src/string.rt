@@ -21,7 +21,8 @@ fn two_digits(text: &[char]) -> Option<(u32, usize)>
 /// The unit of four hexadecimal digits at the front, and the length of the escape that they end.
 fn four_digits(text: &[char]) -> Option<(u32, usize)>
     ensures value { result ≡ spec.four_digits text.now }
-    ensures within { IfSome result (λ part. (part.1 ≡ 6) × (4 ≤ length text.now) × (part.0 < 0x1_0000)) }
+    ensures within { IfSome result (λ part.
+        (part.1 ≡ 6) × (4 ≤ length text.now) × (part.0 < 0x1_0000)) }
 {
     match text {
         [a, b, c, d, ..] => {
@@ -51,7 +52,8 @@ fn escaped(c: char) -> u32
 /// What stands behind a backslash: what it gives, and the length from the backslash on.
 fn escape(text: &[char]) -> Option<(u32, usize)>
     ensures value { result ≡ spec.escape text.now }
-    ensures within { IfSome result (λ part. (0 < part.1) × (part.1 ≤ 1 + length text.now) × (part.0 < 0x11_0000)) }
+    ensures within { IfSome result (λ part.
+        (0 < part.1) × (part.1 ≤ 1 + length text.now) × (part.0 < 0x11_0000)) }
 {
     match text {
         [] => None,
@@ -79,7 +81,8 @@ fn escape(text: &[char]) -> Option<(u32, usize)>
 
 fn string_part(quote: char, text: &[char]) -> Option<(u32, usize)>
     ensures value { result ≡ spec.string_part quote text.now }
-    ensures within { IfSome result (λ part. (0 < part.1) × (part.1 ≤ length text.now) × (part.0 < 0x11_0000)) }
+    ensures within { IfSome result (λ part.
+        (0 < part.1) × (part.1 ≤ length text.now) × (part.0 < 0x11_0000)) }
 {
     match text {
         [] => None,

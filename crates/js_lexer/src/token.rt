@@ -23,8 +23,8 @@ pub enum TokenKind {
     End,
 }
 
-/// A token of a text: what it is, where it stands in bytes, the place of its first character, and whether a line
-/// terminator stands between the token before and it.
+/// A token of a text: what it is, where it stands in bytes, the place of its first character, and
+/// whether a line terminator stands between the token before and it.
 #[derive(Debug, Drop)]
 pub struct Token {
     pub kind: TokenKind,
@@ -39,7 +39,8 @@ pub struct Token {
 pub enum LexKind {
     /// `0` directly before a digit.
     Octal,
-    /// Decimal digits directly before `.`, or `.` directly before a digit where no number is being read.
+    /// Decimal digits directly before `.`, or `.` directly before a digit where no number is being
+    /// read.
     Fraction,
     /// Decimal digits directly before `e` or `E`.
     Exponent,

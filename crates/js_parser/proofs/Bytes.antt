@@ -3,7 +3,7 @@ use Rattle.std.proofs.Common.{◌≡◌, ℕ, true, List, ◌∷◌, Some, rules
 use Rattle.std.proofs.lemmas.Bool.Decides.{nat_tests}
 use Rattle.text_reader.proofs.Bytes.{one_sound, one_again}
 use Rattle.js_parser.specs.First.{IsLetter, IsPlainCharacter}
-use Rattle.js_parser.specs.Reader.{letter, is_letter, is_plain}
+use Rattle.js_parser.specs.FirstReader.{letter, is_letter, is_plain}
 
 pub letter_true : (c : ℕ) → IsLetter c → is_letter c ≡ true
 letter_true c h = search (rules, nat_tests)

@@ -1,17 +1,17 @@
 -- Each rule of the first grammar, as its reader reads it: just the values of the rule, each from its text.
-use Rattle.std.proofs.Common.{◌≡◌, ℕ, ◌+◌, ◌≤◌, ◌<◌, true, List, [], ◌∷◌, ◌++◌, Some, None, refl, ap, sym, ◌∙◌, subst, append_assoc, arith, length, inl, inr}
+use Rattle.std.proofs.Common.{◌≡◌, ℕ, ◌+◌, ◌≤◌, ◌<◌, true, List, [], ◌∷◌, ◌++◌, Some, None, refl, ap, ◌∙◌, append_assoc, arith, length, inl, inr}
 use Rattle.std.specs.Prelude.{◌⊎◌, All, codes}
 use Rattle.std.specs.List.{flat_map}
 use Rattle.std.proofs.lemmas.List.Elements.{All-weaker}
 use Rattle.js_parser.specs.declared.first.FirstStatement.{FirstStatement}
 use Rattle.js_parser.specs.declared.first.FirstStatement.TheVariants.{Call, Out}
 use Rattle.text_reader.specs.Reader.{pure, skip}
+use Rattle.text_reader.proofs.ListLemmas.{Reads, Anything, up_to_sound, up_to_again}
 use Rattle.text_reader.proofs.Joined.{carried, there, other_way, skipped, skips}
 use Rattle.text_reader.proofs.Bytes.{chosen_parts, skip_sound, skip_again, first_differs, second_differs, run_sound, run_again}
 use Rattle.js_parser.specs.First.{IsLetter, IsPlainCharacter, IsStatement, statement_text}
-use Rattle.js_parser.specs.Reader.{letter, characters, out, call, statement, statements, is_plain}
+use Rattle.js_parser.specs.FirstReader.{letter, characters, out, call, statement, statements, is_plain}
 use Rattle.js_parser.proofs.Bytes.{letter_sound, letter_again, plain_true, plain_is}
-use Rattle.js_parser.proofs.Lists.{Reads, many_sound, whole_list}
 
 -- ---- statements
 
@@ -69,8 +69,8 @@ statement_again : (s : FirstStatement) (rest : List ℕ) → IsStatement s → s
 statement_again (Call c) rest h = statement_other (c ∷ (codes "();" ++ rest)) (call_no_out c rest) ∙ call_again c rest h
 statement_again (Out cs) rest h = ap statement (out_text (codes "host.out(\"") cs (codes "\");") rest) ∙ out_statement cs rest h
 
-pub statement_reads : Reads IsStatement statement_text statement
-statement_reads = record { sound = statement_sound; again = statement_again }
+pub statement_reads : Reads IsStatement statement_text Anything statement
+statement_reads = record { sound = statement_sound; again = λ s rest h _. statement_again s rest h }
 
 -- no statement begins with this byte
 statement_not : (b : ℕ) (s : FirstStatement) (r : List ℕ) → (122 < b) ⊎ (b < 97) → IsStatement s → skip (b ∷ []) (statement_text s ++ r) ≡ None
@@ -88,18 +88,20 @@ statement_some (Out cs) = omega arith
 abbrev pub closed_text : List FirstStatement → List ℕ
 closed_text ss = flat_map statement_text ss ++ codes "}"
 
+no_brace : (s : FirstStatement) (r : List ℕ) → IsStatement s → skip (codes "}") (statement_text s ++ r) ≡ None
+no_brace s r h = statement_not 125 s r (inl (omega arith)) h
+
 statements_sound : (bs rest : List ℕ) (ss : List FirstStatement) → statements bs ≡ Some (ss, rest) → All IsStatement ss × (closed_text ss ++ rest ≡ bs)
 unfolding statements
 statements_sound bs rest ss e =
-    let h = many_sound IsStatement statement_text statement statement_reads (skip (codes "}")) (codes "}") (skip_sound (codes "}")) (length bs + 1) [] bs ss rest e in
-    let joined : closed_text h.0 ++ rest ≡ bs = append_assoc (flat_map statement_text h.0) (codes "}") rest ∙ h.3 in
-    (subst (All IsStatement) (sym h.1) h.2, subst (λ v. closed_text v ++ rest ≡ bs) (sym h.1) joined)
+    let h = up_to_sound IsStatement statement_text statement statement_reads (skip (codes "}")) (codes "}") (skip_sound (codes "}")) no_brace statement_some bs ss rest e in
+    (h.0, append_assoc (flat_map statement_text ss) (codes "}") rest ∙ h.1)
 
 statements_again : (ss : List FirstStatement) (rest : List ℕ) → All IsStatement ss → statements (closed_text ss ++ rest) ≡ Some (ss, rest)
 unfolding statements
 statements_again ss rest a =
-    let list = whole_list IsStatement statement_text statement statement_reads (skip (codes "}")) (codes "}") (skip_sound (codes "}")) (λ s r h. statement_not 125 s r (inl (omega arith)) h) statement_some ss rest a (skip_again (codes "}") rest) in
+    let list = up_to_again IsStatement statement_text statement statement_reads (skip (codes "}")) (codes "}") (skip_sound (codes "}")) no_brace statement_some ss rest a (skip_again (codes "}") rest) in
     ap statements (append_assoc (flat_map statement_text ss) (codes "}") rest) ∙ list
 
-pub statements_reads : Reads (All IsStatement) closed_text statements
-statements_reads = record { sound = statements_sound; again = statements_again }
+pub statements_reads : Reads (All IsStatement) closed_text Anything statements
+statements_reads = record { sound = statements_sound; again = λ ss rest h _. statements_again ss rest h }

@@ -1,6 +1,6 @@
 -- What `read_script` and `read_cluster` read is of the grammar and has the text, and each text of the grammar is read.
-use Rattle.std.proofs.Common.{inl, inr, ◌≡◌, ℕ, zero, suc, ◌+◌, ◌≤◌, List, [], ◌∷◌, ◌++◌, Option, Some, None, refl, ap, sym, ◌∙◌, subst, append_assoc, arith, length, length-append}
-use Rattle.std.specs.Prelude.{◌⊎◌, All, codes}
+use Rattle.std.proofs.Common.{◌≡◌, ℕ, ◌+◌, ◌≤◌, List, [], ◌∷◌, ◌++◌, Option, Some, None, refl, ap, sym, ◌∙◌, subst, append_assoc, arith, length, length-append}
+use Rattle.std.specs.Prelude.{All, codes}
 use Rattle.std.specs.List.{flat_map}
 use Rattle.std.specs.Fmt.{decimal}
 use Rattle.std.proofs.lemmas.List.{append-nil}
@@ -8,13 +8,13 @@ use Rattle.js_parser.specs.declared.first.FirstStatement.{FirstStatement}
 use Rattle.js_parser.specs.declared.first.FirstItem.{FirstItem}
 use Rattle.js_parser.specs.declared.first.FirstScript.{FirstScript}
 use Rattle.js_parser.specs.declared.first.FirstEntry.{FirstEntry}
-use Rattle.text_reader.specs.Reader.{Found, Reader, and_then, pure, ◌>>=◌, ◌>>◌, skip, ended}
+use Rattle.text_reader.specs.Reader.{Found, Reader, pure, ◌>>=◌, ◌>>◌, skip, ended, whole}
 use Rattle.text_reader.proofs.Joined.{carried, skipped, skips}
-use Rattle.text_reader.proofs.Bytes.{chosen_parts, then_parts, same_parts, ended_is, ended_again, not_ended}
+use Rattle.text_reader.proofs.Bytes.{then_parts, same_parts, ended_is, ended_again, not_ended}
 use Rattle.js_parser.specs.First.{IsItem, IsEntry, statement_text, script_text, entry_text, cluster_text}
-use Rattle.js_parser.specs.Reader.{number, many, statements, items, script, entry, entries, whole, read_script, read_cluster}
+use Rattle.js_parser.specs.FirstReader.{number, statements, items, script, entry, entries, read_script, read_cluster}
 use Rattle.js_parser.proofs.Numbers.{number_sound, number_again}
-use Rattle.js_parser.proofs.Lists.{Reads, many_sound, whole_list}
+use Rattle.text_reader.proofs.ListLemmas.{Reads, Anything, up_to_sound, up_to_last, up_to_again}
 use Rattle.js_parser.proofs.Grammar.{closed_text, statements_reads}
 use Rattle.js_parser.proofs.Scripts.{items_reads}
 
@@ -40,7 +40,7 @@ script_sound bs rest s e =
 script_again : (s : FirstScript) → All IsItem s.items → script (script_text s) ≡ Some (s, [])
 unfolding script
 script_again s a =
-    let read : items (script_text s) ≡ Some (s.items, []) = ap items (sym (append-nil (script_text s))) ∙ items_reads.again s.items [] a in
+    let read : items (script_text s) ≡ Some (s.items, []) = ap items (sym (append-nil (script_text s))) ∙ items_reads.again s.items [] a tt in
     rw (read, ended_again)
 
 abbrev paired : {A : Type 0} → List ℕ → Option A → Found A
@@ -99,10 +99,10 @@ entry_again x rest h =
     let bs = decimal x.number ++ (codes " (function(){" ++ mid) in
     ap entry (entry_parts (decimal x.number) (codes " (function(){") (flat_map statement_text x.body) (codes ")\n") rest)
     ∙ skips number (codes " (function(){") after_number bs mid x.number (number_again x.number 32 (codes "(function(){" ++ mid) h.0 refl)
-    ∙ skips statements (codes ")\n") (after_body x.number) mid rest x.body (statements_reads.again x.body (codes ")\n" ++ rest) h.1)
+    ∙ skips statements (codes ")\n") (after_body x.number) mid rest x.body (statements_reads.again x.body (codes ")\n" ++ rest) h.1 tt)
 
-entry_reads : Reads IsEntry entry_text entry
-entry_reads = record { sound = entry_sound; again = entry_again }
+entry_reads : Reads IsEntry entry_text Anything entry
+entry_reads = record { sound = entry_sound; again = λ x rest h _. entry_again x rest h }
 
 entry_some : (x : FirstEntry) → 1 ≤ length (entry_text x)
 entry_some x = omega (arith, length-append (decimal x.number) (codes " (function(){" ++ (flat_map statement_text x.body ++ codes "})\n")))
@@ -112,32 +112,18 @@ entry_not_ended x r h = not_ended (entry_text x ++ r) (omega (arith, entry_some 
 
 entries_sound : (bs rest : List ℕ) (xs : List FirstEntry) → entries bs ≡ Some (xs, rest) → All IsEntry xs × (cluster_text xs ++ rest ≡ bs)
 unfolding entries
-entries_sound bs rest xs e =
-    let h = many_sound IsEntry entry_text entry entry_reads ended [] ended_sound (length bs + 1) [] bs xs rest e in
-    (subst (All IsEntry) (sym h.1) h.2, subst (λ v. cluster_text v ++ rest ≡ bs) (sym h.1) h.3)
-
-stop_by : (n : ℕ) (found : List FirstEntry) (bs : List ℕ) (xs : List FirstEntry) (r : List ℕ)
-    → ((x : FirstEntry) (rest : List ℕ) → many ended entry n (found ++ x ∷ []) rest ≡ Some (xs, r) → r ≡ [])
-    → ((r' : List ℕ) × (ended bs ≡ Some (tt, r')) × (pure found r' ≡ Some (xs, r))) ⊎ ((ended bs ≡ None) × (and_then (entry bs) (λ x. many ended entry n (found ++ x ∷ [])) ≡ Some (xs, r))) → r ≡ []
-stop_by n found bs xs r more (inl h) = sym (same_parts found xs h.0 r h.2).1 ∙ (ended_is bs h.0 tt h.1).1
-stop_by n found bs xs r more (inr h) =
-    let p = then_parts (entry bs) (λ x. many ended entry n (found ++ x ∷ [])) (xs, r) h.1 in
-    more p.0.0 p.0.1 p.2
-
-entries_stop : (n : ℕ) (found : List FirstEntry) (bs : List ℕ) (xs : List FirstEntry) (r : List ℕ) → many ended entry n found bs ≡ Some (xs, r) → r ≡ []
-unfolding many
-entries_stop zero found bs xs r e = cc
-entries_stop (suc n) found bs xs r e =
-    stop_by n found bs xs r (λ x rest w. entries_stop n (found ++ x ∷ []) rest xs r w) (chosen_parts (ended bs) (pure found) (and_then (entry bs) (λ x. many ended entry n (found ++ x ∷ []))) (xs, r) e)
+entries_sound bs rest xs e = up_to_sound IsEntry entry_text entry entry_reads ended [] ended_sound entry_not_ended entry_some bs xs rest e
 
 entries_end : (bs r : List ℕ) (xs : List FirstEntry) → entries bs ≡ Some (xs, r) → r ≡ []
 unfolding entries
-entries_end bs r xs e = entries_stop (length bs + 1) [] bs xs r e
+entries_end bs r xs e =
+    let stopped = up_to_last IsEntry entry_text entry entry_reads ended [] ended_sound entry_not_ended entry_some bs xs r e in
+    (ended_is r r tt stopped).1
 
 entries_again : (xs : List FirstEntry) → All IsEntry xs → entries (cluster_text xs) ≡ Some (xs, [])
 unfolding entries
 entries_again xs a =
-    let list = whole_list IsEntry entry_text entry entry_reads ended [] ended_sound entry_not_ended entry_some xs [] a ended_again in
+    let list = up_to_again IsEntry entry_text entry entry_reads ended [] ended_sound entry_not_ended entry_some xs [] a ended_again in
     ap entries (sym (append-nil (cluster_text xs))) ∙ list
 
 pub read_cluster_sound : (bs : List ℕ) (xs : List FirstEntry) → read_cluster bs ≡ Some xs → All IsEntry xs × (cluster_text xs ≡ bs)

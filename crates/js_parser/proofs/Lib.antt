@@ -1,6 +1,5 @@
 pub mod Bytes
 pub mod Numbers
-pub mod Lists
 pub mod Grammar
 pub mod Scripts
 pub mod Laws

@@ -6,7 +6,8 @@ use Rattle.text_reader.specs.Reader as reader
 use Rattle.text_reader.proofs.Bytes.{then_parts, same_parts}
 use Rattle.text_reader.proofs.Numbers.{decimal_before, decimal_sound}
 use Rattle.js_parser.specs.First.{IsFunctionNumber}
-use Rattle.js_parser.specs.Reader.{is_function_number, number}
+use Rattle.js_tree.specs.Numbering.{is_function_number}
+use Rattle.js_parser.specs.FirstReader.{number}
 
 number_is : (k : ℕ) → is_function_number k ≡ true → IsFunctionNumber k
 number_is k h = search (rules, nat_tests)

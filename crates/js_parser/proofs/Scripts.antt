@@ -1,5 +1,5 @@
 -- Bodies, functions, items and scripts, as their readers read them.
-use Rattle.std.proofs.Common.{◌≡◌, ℕ, ◌+◌, ◌≤◌, List, [], ◌∷◌, ◌++◌, Some, None, refl, ap, sym, ◌∙◌, subst, append_assoc, arith, length, inl, inr}
+use Rattle.std.proofs.Common.{◌≡◌, ℕ, ◌+◌, ◌≤◌, List, [], ◌∷◌, ◌++◌, Some, None, refl, ap, ◌∙◌, subst, append_assoc, arith, length, inl, inr}
 use Rattle.std.specs.Prelude.{◌⊎◌, All, codes}
 use Rattle.std.specs.List.{flat_map}
 use Rattle.std.specs.Fmt.{decimal}
@@ -11,13 +11,13 @@ use Rattle.js_parser.specs.declared.first.FirstFunction.{FirstFunction}
 use Rattle.js_parser.specs.declared.first.FirstItem.{FirstItem}
 use Rattle.js_parser.specs.declared.first.FirstItem.TheVariants.{Statement, Function}
 use Rattle.text_reader.specs.Reader.{Reader, pure, ◌>>=◌, skip}
+use Rattle.text_reader.proofs.ListLemmas.{Reads, Anything, up_to_sound, up_to_again}
 use Rattle.text_reader.proofs.Joined.{carried, skipped, skips, mapped, maps, there, other_way}
 use Rattle.text_reader.proofs.Bytes.{chosen_parts, skip_sound, skip_again, first_differs, second_differs}
 use Rattle.js_parser.specs.First.{IsLetter, IsFunctionNumber, IsBody, IsItem, statement_text, body_text, item_text}
-use Rattle.js_parser.specs.Reader.{letter, number, statement, statements, stub, plain_body, body, function, function_item, statement_item, item, items}
+use Rattle.js_parser.specs.FirstReader.{letter, number, statement, statements, stub, plain_body, body, function, function_item, statement_item, item, items}
 use Rattle.js_parser.proofs.Bytes.{letter_sound, letter_again}
 use Rattle.js_parser.proofs.Numbers.{number_sound, number_again}
-use Rattle.js_parser.proofs.Lists.{Reads, many_sound, whole_list}
 use Rattle.js_parser.proofs.Grammar.{closed_text, statement_reads, statements_reads}
 
 -- ---- bodies
@@ -82,7 +82,7 @@ stub_body : (k : ℕ) (rest : List ℕ) → IsFunctionNumber k → body (stub_fr
 stub_body k rest h = body_there (stub_front ++ (decimal k ++ (codes ")).apply(this,arguments);}" ++ rest))) (decimal k ++ (codes ")).apply(this,arguments);}" ++ rest)) (skip_again stub_front (decimal k ++ (codes ")).apply(this,arguments);}" ++ rest))) ∙ stub_again k rest h
 
 body_again : (b : FirstBody) (rest : List ℕ) → IsBody b → body (whole_body b ++ rest) ≡ Some (b, rest)
-body_again (Statements ss) rest h = body_other (closed_text ss ++ rest) (no_stub ss rest) ∙ maps statements Statements (closed_text ss ++ rest) rest ss (statements_reads.again ss rest h)
+body_again (Statements ss) rest h = body_other (closed_text ss ++ rest) (no_stub ss rest) ∙ maps statements Statements (closed_text ss ++ rest) rest ss (statements_reads.again ss rest h tt)
 body_again (Stub k) rest h = ap body (grouped stub_front (decimal k) stub_back (codes "}") rest) ∙ stub_body k rest h
 
 -- ---- functions
@@ -155,13 +155,13 @@ no_function (Call c) rest = second_differs 102 c (codes "unction ") (codes "();"
 no_function (Out cs) rest = first_differs 102 104 (codes "unction ") ((codes "ost.out(\"" ++ (cs ++ codes "\");")) ++ rest) (λ e. absurd (omega arith))
 
 item_again : (i : FirstItem) (rest : List ℕ) → IsItem i → item (item_text i ++ rest) ≡ Some (i, rest)
-item_again (Statement s) rest h = item_other (statement_text s ++ rest) (no_function s rest) ∙ maps statement Statement (statement_text s ++ rest) rest s (statement_reads.again s rest h)
+item_again (Statement s) rest h = item_other (statement_text s ++ rest) (no_function s rest) ∙ maps statement Statement (statement_text s ++ rest) rest s (statement_reads.again s rest h tt)
 item_again (Function f) rest h =
     let bs = function_text f ++ rest in
     item_there (function_front ++ bs) bs (skip_again function_front bs) ∙ maps function Function bs rest f (function_again f rest h)
 
-pub item_reads : Reads IsItem item_text item
-item_reads = record { sound = item_sound; again = item_again }
+pub item_reads : Reads IsItem item_text Anything item
+item_reads = record { sound = item_sound; again = λ i rest h _. item_again i rest h }
 
 no_line_feed : (i : FirstItem) (r : List ℕ) → IsItem i → skip (10 ∷ []) (item_text i ++ r) ≡ None
 no_line_feed (Statement (Call c)) r h = first_differs 10 c [] (codes "();" ++ r) (λ e. absurd (omega arith))
@@ -181,15 +181,14 @@ line is = flat_map item_text is ++ 10 ∷ []
 items_sound : (bs rest : List ℕ) (is : List FirstItem) → items bs ≡ Some (is, rest) → All IsItem is × (line is ++ rest ≡ bs)
 unfolding items
 items_sound bs rest is e =
-    let h = many_sound IsItem item_text item item_reads (skip (10 ∷ [])) (10 ∷ []) (skip_sound (10 ∷ [])) (length bs + 1) [] bs is rest e in
-    let joined : line h.0 ++ rest ≡ bs = append_assoc (flat_map item_text h.0) (10 ∷ []) rest ∙ h.3 in
-    (subst (All IsItem) (sym h.1) h.2, subst (λ v. line v ++ rest ≡ bs) (sym h.1) joined)
+    let h = up_to_sound IsItem item_text item item_reads (skip (codes "\n")) (codes "\n") (skip_sound (codes "\n")) no_line_feed item_some bs is rest e in
+    (h.0, append_assoc (flat_map item_text is) (codes "\n") rest ∙ h.1)
 
 items_again : (is : List FirstItem) (rest : List ℕ) → All IsItem is → items (line is ++ rest) ≡ Some (is, rest)
 unfolding items
 items_again is rest a =
-    let list = whole_list IsItem item_text item item_reads (skip (10 ∷ [])) (10 ∷ []) (skip_sound (10 ∷ [])) no_line_feed item_some is rest a (skip_again (10 ∷ []) rest) in
-    ap items (append_assoc (flat_map item_text is) (10 ∷ []) rest) ∙ list
+    let list = up_to_again IsItem item_text item item_reads (skip (codes "\n")) (codes "\n") (skip_sound (codes "\n")) no_line_feed item_some is rest a (skip_again (codes "\n") rest) in
+    ap items (append_assoc (flat_map item_text is) (codes "\n") rest) ∙ list
 
-pub items_reads : Reads (All IsItem) line items
-items_reads = record { sound = items_sound; again = items_again }
+pub items_reads : Reads (All IsItem) line Anything items
+items_reads = record { sound = items_sound; again = λ is rest h _. items_again is rest h }

@@ -1,7 +1,16 @@
--- The numbers of functions: 1, 2, .. over the scripts in order, by the place of a function's first token.
--- A function's first token is its word `function`, so a function comes before those inside it, and these come in the order of the text.
-use Rattle.std.specs.Prelude.{◌≡◌, ℕ, ◌+◌, List, [], ◌∷◌, ◌++◌}
+-- The numbers of functions: 1, 2, .. over the scripts in order, by the place of a function's first
+-- token. A function's first token is its word `function`, so a function comes before those inside it,
+-- and these come in the order of the text.
+use Rattle.std.specs.Prelude.{◌≡◌, ℕ, ◌+◌, Bool, ◌&&◌, nat_le, List, [], ◌∷◌, ◌++◌}
 use Rattle.js_tree.specs.Tree
+
+-- the greatest number of a function
+abbrev pub last_function_number : ℕ
+last_function_number = 65535
+
+-- the numbers that a function may have
+abbrev pub is_function_number : ℕ → Bool
+is_function_number n = nat_le 1 n && nat_le n last_function_number
 
 -- the functions of a tree, in the order of their first tokens
 abbrev mutual
@@ -53,7 +62,8 @@ abbrev mutual
   in_stmt (Tree.If test then other) = in_expr test ++ (in_stmt then ++ in_maybe_stmt other)
   in_stmt (Tree.DoWhile body test) = in_stmt body ++ in_expr test
   in_stmt (Tree.While test body) = in_expr test ++ in_stmt body
-  in_stmt (Tree.For first test next body) = in_for_init first ++ (in_maybe_expr test ++ (in_maybe_expr next ++ in_stmt body))
+  in_stmt (Tree.For first test next body) =
+      in_for_init first ++ (in_maybe_expr test ++ (in_maybe_expr next ++ in_stmt body))
   in_stmt (Tree.ForIn target object body) = in_for_target target ++ (in_expr object ++ in_stmt body)
   in_stmt (Tree.Continue label) = []
   in_stmt (Tree.Break label) = []
@@ -95,7 +105,8 @@ abbrev mutual
   in_cases (Tree.MoreCases test body rest) = in_maybe_expr test ++ (in_stmts body ++ in_cases rest)
 
   pub in_func : Tree.Func → List Tree.Func
-  in_func (Tree.Code number name formals body role) = Tree.Code number name formals body role ∷ in_stmts body
+  in_func (Tree.Code number name formals body role) =
+      Tree.Code number name formals body role ∷ in_stmts body
 
 abbrev pub number_of : Tree.Func → ℕ
 number_of (Tree.Code number name formals body role) = number

@@ -1,4 +1,5 @@
--- Plain trees, on which every definition stands: the types of scripts without their places in memory.
+-- Plain trees, on which every definition stands: the types of scripts without their places in
+-- memory.
 -- A name or a text is a list of UTF-16 units.
 use Rattle.std.specs.Prelude.{ℕ, List, Option, Bool}
 use Rattle.js_tree.specs.declared.tree.PostfixOp.{PostfixOp}
@@ -109,7 +110,8 @@ mutual
 
   -- a function, ES3 section 13
   pub data Func : Type 0 where
-    Code : (number : ℕ) → (name : Option Name) → (formals : List Name) → (body : Stmts) → (role : Role) → Func
+    Code : (number : ℕ) → (name : Option Name) → (formals : List Name) → (body : Stmts)
+        → (role : Role) → Func
 
 -- a script's statements and declarations, ES3 section 14
 abbrev pub Script : Type 0

@@ -1,8 +1,8 @@
 //! The trees of scripts: what the parser gives and every later layer reads.
 //!
-//! The layers above may know the types as they stand here, and in contracts the plain trees of `specs/Tree.antt`, on
-//! which every definition stands. A plain tree has no places in memory, so two equal trees are one value. `Script` and
-//! `Func` have `copy` of `TryCopy`.
+//! The layers above may know the types as they stand here, and in contracts the plain trees of
+//! `specs/Tree.antt`, on which every definition stands. A plain tree has no places in memory, so
+//! two equal trees are one value. `Script` and `Func` have `copy` of `TryCopy`.
 #![tactic(auto)]
 
 mod copy;
@@ -13,6 +13,6 @@ mod tree;
 
 pub use rows::{functions_in_trees, numbered_scripts, plain_nodes};
 pub use tree::{
-    BinaryOp, Case, Cases, Elements, Expr, Exprs, ForInit, ForTarget, Func, Pair, Pairs, PostfixOp,
-    PrefixOp, Role, Script, Scripts, Stmt, Stmts, VarItem, VarItems,
+    BinaryOp, Case, Cases, Elements, Expr, Exprs, ForInit, ForTarget, Func, LAST_FUNCTION_NUMBER,
+    Pair, Pairs, PostfixOp, PrefixOp, Role, Script, Scripts, Stmt, Stmts, VarItem, VarItems,
 };

@@ -1,6 +1,9 @@
 use dl_text::{Names, Units};
 use sqlite_items::{Boxed, Items};
 
+/// The greatest number of a function.
+pub const LAST_FUNCTION_NUMBER: u32 = 65_535;
+
 /// A whole script: the statements and declarations of a program (ES3 section 14).
 #[derive(Drop)]
 pub struct Script {
@@ -151,7 +154,8 @@ pub struct Pair {
     pub value: Expr,
 }
 
-/// A function, declared or in an expression. A text says no number and no role: a parser gives 0 and `Plain`.
+/// A function, declared or in an expression. A text says no number and no role: a parser gives 0
+/// and `Plain`.
 #[cycle(tree)]
 #[derive(Drop)]
 pub struct Func {

@@ -1,5 +1,5 @@
-//! Reads a script from standard input, cuts it into tokens, and tells how many there are. `bench/lex.sh` runs it on
-//! large texts, to see that the time grows with the text and no faster.
+//! Reads a script from standard input, cuts it into tokens, and tells how many there are.
+//! `bench/lex.sh` runs it on large texts, to see that the time grows with the text and no faster.
 #![tactic(auto)]
 
 use dl_text::text_of;

@@ -6,7 +6,7 @@ use Rattle.play.specs.declared.manifest.ClusterLine.{ClusterLine}
 use Rattle.play.specs.declared.manifest.Manifest.{Manifest}
 use Rattle.play.specs.Manifest.{IsManifest}
 use Rattle.play.specs.Site.{line_of}
-use Rattle.play.proofs.Tables.{none_some, some_one}
+use Rattle.play.proofs.TableLemmas.{none_some, some_one}
 
 Apart : ℕ → List ℕ → Type 0
 Apart n ys = AllByRecursion (λ y. nat_eq n y ≡ false) ys

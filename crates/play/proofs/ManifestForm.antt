@@ -12,8 +12,8 @@ use Rattle.std.proofs.lemmas.Map.Keys.{IsDistinct-IsPermutation, IsStrictlyIncre
 use Rattle.js_parser.specs.First.{IsFunctionNumber}
 use Rattle.play.specs.declared.manifest.ClusterLine.{ClusterLine}
 use Rattle.play.specs.declared.manifest.Manifest.{Manifest}
-use Rattle.play.specs.Manifest.{Rises, IsClusterLine, IsManifest, cluster_numbers, all_numbers}
-use Rattle.js_parser.specs.Reader.{is_function_number}
+use Rattle.play.specs.Manifest.{most_script_bytes, most_cluster_bytes, Rises, IsClusterLine, IsManifest, cluster_numbers, all_numbers}
+use Rattle.js_tree.specs.Numbering.{is_function_number}
 use Rattle.play.specs.ManifestReader.{rises, are_entries, is_cluster_line, is_distinct, has_lines_of_form, is_manifest}
 
 -- ---- numbers
@@ -53,11 +53,11 @@ some_true (k ∷ ks) h = grind (arith, nat_tests)
 
 line_is : (c : ClusterLine) → is_cluster_line c ≡ true → IsClusterLine c
 line_is c e =
-    let p = and_parts (nat_le c.bytes (2 ^ 31)) (are_entries c.entries) e in
+    let p = and_parts (nat_le c.bytes most_cluster_bytes) (are_entries c.entries) e in
     let q = and_parts (nat_lt 0 (length c.entries)) (rises 0 c.entries && list_all is_function_number c.entries) p.1 in
     let r = and_parts (rises 0 c.entries) (list_all is_function_number c.entries) q.1 in
     record {
-      bytes = at_most_is c.bytes (2 ^ 31) p.0;
+      bytes = at_most_is c.bytes most_cluster_bytes p.0;
       some = some_is c.entries q.0;
       rise = (rises_decides 0 c.entries).0 r.0;
       numbers = (functions_decide c.entries).0 r.1;
@@ -65,7 +65,7 @@ line_is c e =
 
 line_true : (c : ClusterLine) → IsClusterLine c → is_cluster_line c ≡ true
 line_true c h =
-    and_true (nat_le c.bytes (2 ^ 31)) (are_entries c.entries) (at_most_true c.bytes (2 ^ 31) h.bytes)
+    and_true (nat_le c.bytes most_cluster_bytes) (are_entries c.entries) (at_most_true c.bytes most_cluster_bytes h.bytes)
     (and_true (nat_lt 0 (length c.entries)) (rises 0 c.entries && list_all is_function_number c.entries) (some_true c.entries h.some)
     (and_true (rises 0 c.entries) (list_all is_function_number c.entries) ((rises_decides 0 c.entries).1 h.rise) ((functions_decide c.entries).1 h.numbers)))
 
@@ -133,7 +133,7 @@ numbers_of_clusters (c ∷ cs) a =
     All-append IsFunctionNumber c.entries (flat_map (λ c. c.entries) cs) line.numbers (numbers_of_clusters cs (All-tail IsClusterLine c cs a))
 
 pub record HasLines (m : Manifest) : Type 0 where
-  pub bytes : m.script_bytes ≤ 65535
+  pub bytes : m.script_bytes ≤ most_script_bytes
   pub numbers : All IsFunctionNumber m.plain
   pub clusters : All IsClusterLine m.clusters
   pub rise : Rises 0 (cluster_numbers m.clusters)
@@ -142,11 +142,11 @@ lines_are : (m : Manifest) → has_lines_of_form m ≡ true → HasLines m
 unfolding has_lines_of_form
 lines_are m e =
     let ordered = rises 0 (cluster_numbers m.clusters) in
-    let p = and_parts (nat_le m.script_bytes 65535) (list_all is_function_number m.plain && (list_all is_cluster_line m.clusters && ordered)) e in
+    let p = and_parts (nat_le m.script_bytes most_script_bytes) (list_all is_function_number m.plain && (list_all is_cluster_line m.clusters && ordered)) e in
     let q = and_parts (list_all is_function_number m.plain) (list_all is_cluster_line m.clusters && ordered) p.1 in
     let r = and_parts (list_all is_cluster_line m.clusters) ordered q.1 in
     record {
-      bytes = at_most_is m.script_bytes 65535 p.0;
+      bytes = at_most_is m.script_bytes most_script_bytes p.0;
       numbers = (functions_decide m.plain).0 q.0;
       clusters = (lines_decide m.clusters).0 r.0;
       rise = (rises_decides 0 (cluster_numbers m.clusters)).0 r.1;
@@ -178,5 +178,5 @@ manifest_true m h =
     let lines : (list_all is_cluster_line m.clusters && ordered) ≡ true = and_true (list_all is_cluster_line m.clusters) ordered ((lines_decide m.clusters).1 h.clusters) ((rises_decides 0 (cluster_numbers m.clusters)).1 h.rise) in
     let numbered = and_true (list_all is_function_number m.plain) (list_all is_cluster_line m.clusters && ordered) ((functions_decide m.plain).1 h.numbers) lines in
     and_true (has_lines_of_form m) (is_distinct (all_numbers m))
-    (and_true (nat_le m.script_bytes 65535) (list_all is_function_number m.plain && (list_all is_cluster_line m.clusters && ordered)) (at_most_true m.script_bytes 65535 h.bytes) numbered)
+    (and_true (nat_le m.script_bytes most_script_bytes) (list_all is_function_number m.plain && (list_all is_cluster_line m.clusters && ordered)) (at_most_true m.script_bytes most_script_bytes h.bytes) numbered)
     ((distinct_decides (all_numbers m)).1 h.distinct)

@@ -1,18 +1,18 @@
 -- The manifest that is read from a text is the one whose text it is.
-use Rattle.std.proofs.Common.{◌≡◌, ℕ, ◌^◌, ◌<◌, Bool, true, false, cond, List, [], ◌∷◌, ◌++◌, Option, Some, None, refl, ap, sym, ◌∙◌, subst, arith}
-use Rattle.std.specs.Prelude.{All, codes}
+use Rattle.std.proofs.Common.{◌≡◌, ℕ, ◌^◌, ◌<◌, Bool, true, false, cond, List, [], ◌∷◌, ◌++◌, Option, Some, None, Result, Ok, Err, refl, ap, sym, ◌∙◌, subst, arith}
+use Rattle.std.specs.Prelude.{All, IfOk, codes}
 use Rattle.std.specs.List.{flat_map}
-use Rattle.std.specs.Option.{IfSome}
 use Rattle.std.specs.Fmt.{decimal}
 use Rattle.std.proofs.lemmas.List.Elements.{All-nil, All-cons, All-head, All-tail, All-weaker, All-map}
 use Rattle.js_parser.specs.First.{IsFunctionNumber}
 use Rattle.play.specs.declared.manifest.ClusterLine.{ClusterLine}
 use Rattle.play.specs.declared.manifest.Manifest.{Manifest}
 use Rattle.text_reader.specs.Reader.{Found, Reader, ◌>>=◌, ◌>>◌, pure, skip, ended}
+use Rattle.text_reader.specs.Gives.{IfRead, IsRead}
 use Rattle.text_reader.proofs.Numbers.{EndsNumber, decimal_sound, decimal_again}
 use Rattle.text_reader.proofs.Joined.{skipped, skips, begins, begins_again}
 use Rattle.text_reader.proofs.Bytes.{then_parts, same_parts}
-use Rattle.play.specs.Manifest.{numbers_text, cluster_lines, manifest_text, cluster_numbers, IsClusterLine, IsManifest}
+use Rattle.play.specs.Manifest.{numbers_text, cluster_lines, manifest_text, cluster_numbers, IsClusterLine, IsManifest, IsManifestOf}
 use Rattle.text_reader.specs.Reader as reader
 use Rattle.play.specs.ManifestReader.{numbers, clusters, manifest, is_manifest, of_form, read_manifest}
 use Rattle.play.proofs.ManifestLines.{Fits, FitsLine, numbers_sound, numbers_again, clusters_sound, clusters_again}
@@ -129,9 +129,11 @@ read_manifest_complete m h =
 
 -- ---- what the function that reads ensures
 
-pub sound_of : (bytes : List ℕ) (r : Option Manifest) → r ≡ read_manifest bytes → IfSome r (λ m. IsManifest m × (manifest_text m ≡ bytes))
-sound_of bytes (Some m) e = read_manifest_sound bytes m (sym e)
-sound_of bytes None e = tt
+pub sound_of : {E : Type 0} (r : Result (Option Manifest) E) (bytes : List ℕ) → IfOk r (λ o. o ≡ read_manifest bytes) → IfRead r (IsManifestOf bytes)
+sound_of (Ok (Some m)) bytes e = read_manifest_sound bytes m (sym e)
+sound_of (Ok None) bytes e = tt
+sound_of (Err x) bytes e = tt
 
-pub complete_of : (bytes : List ℕ) (r : Option Manifest) → r ≡ read_manifest bytes → (m : Manifest) → IsManifest m → manifest_text m ≡ bytes → r ≡ Some m
-complete_of bytes r e m h t = e ∙ ap read_manifest (sym t) ∙ read_manifest_complete m h
+pub complete_of : {E : Type 0} (r : Result (Option Manifest) E) (bytes : List ℕ) → IfOk r (λ o. o ≡ read_manifest bytes) → (m : Manifest) → IsManifestOf bytes m → IsRead r m
+complete_of (Ok o) bytes e m h = e ∙ ap read_manifest (sym h.1) ∙ read_manifest_complete m h.0
+complete_of (Err x) bytes e m h = tt

@@ -1,18 +1,18 @@
 -- The readers of a manifest's parts give what their texts are of.
-use Rattle.std.proofs.Common.{◌≡◌, ℕ, ◌+◌, ◌^◌, ◌<◌, List, [], ◌∷◌, ◌++◌, Some, None, refl, ap, sym, ◌∙◌, subst, append_assoc, arith, length, inl, inr}
+use Rattle.std.proofs.Common.{◌≡◌, ℕ, ◌+◌, ◌^◌, ◌<◌, ◌≤◌, List, [], ◌∷◌, ◌++◌, Some, None, refl, ap, sym, ◌∙◌, subst, append_assoc, arith, length, inl, inr}
 use Rattle.std.specs.Prelude.{◌⊎◌, All, codes}
 use Rattle.std.specs.List.{flat_map}
 use Rattle.std.specs.Fmt.{decimal}
 use Rattle.std.proofs.lemmas.List.Elements.{All-nil, All-cons, All-head, All-tail}
 use Rattle.play.specs.declared.manifest.ClusterLine.{ClusterLine}
-use Rattle.text_reader.specs.Reader.{Reader, ◌>>=◌, ◌>>◌, pure, skip}
+use Rattle.text_reader.specs.Reader.{Reader, ◌>>=◌, ◌>>◌, pure, skip, list_after}
 use Rattle.text_reader.proofs.Numbers.{EndsNumber, decimal_sound, decimal_again, decimal_not}
 use Rattle.text_reader.proofs.Joined.{carried, skipped, skips, mapped, maps}
 use Rattle.text_reader.proofs.Bytes.{then_parts, chosen_parts, skip_sound, skip_again}
 use Rattle.play.specs.Manifest.{more_numbers, numbers_text, entry_line, cluster_lines}
 use Rattle.text_reader.specs.Reader as reader
-use Rattle.play.specs.ManifestReader.{numbers_after, some_numbers, numbers, entry, entries, cluster, clusters}
-use Rattle.play.proofs.ManifestLists.{Reads, each_sound, whole_list}
+use Rattle.play.specs.ManifestReader.{next_number, some_numbers, numbers, entry, entries, cluster, clusters}
+use Rattle.text_reader.proofs.ListLemmas.{Anything, Reads, lines_sound, more_lines, lines_again}
 
 -- a number that fits its type
 abbrev pub Fits : ℕ → Type 0
@@ -30,16 +30,17 @@ more_is (n ∷ ns) = ap (λ v. 44 ∷ (decimal n ++ v)) (more_is ns)
 comma : (r : List ℕ) → EndsNumber (codes "," ++ r)
 comma r = record { first = 44; others = r; is = refl; no_digit = refl }
 
-after_sound : (found bs ys rest : List ℕ) → numbers_after found bs ≡ Some (ys, rest) → (ns : List ℕ) × (ys ≡ found ++ ns) × All Fits ns × (more_numbers ns ++ rest ≡ bs)
-unfolding numbers_after
+comma_some : 1 ≤ length (codes ",")
+comma_some = omega arith
+
+after_sound : (found bs ys rest : List ℕ) → list_after found next_number bs ≡ Some (ys, rest) → (ns : List ℕ) × (ys ≡ found ++ ns) × All Fits ns × (more_numbers ns ++ rest ≡ bs)
 after_sound found bs ys rest e =
-    let w = each_sound Fits decimal EndsNumber reader.decimal number_reads (codes ",") (length bs + 1) found bs ys rest e in
+    let w = more_lines Fits decimal EndsNumber reader.decimal number_reads (codes ",") comma comma_some found bs ys rest e in
     (w.0, w.1, w.2, ap (λ v. v ++ rest) (more_is w.0) ∙ w.3)
 
-after_again : (found ns rest : List ℕ) → All Fits ns → skip (codes ",") rest ≡ None → EndsNumber rest → numbers_after found (more_numbers ns ++ rest) ≡ Some (found ++ ns, rest)
-unfolding numbers_after
+after_again : (found ns rest : List ℕ) → All Fits ns → skip (codes ",") rest ≡ None → EndsNumber rest → list_after found next_number (more_numbers ns ++ rest) ≡ Some (found ++ ns, rest)
 after_again found ns rest a e h =
-    rw (more_is ns) (whole_list Fits decimal EndsNumber reader.decimal number_reads (codes ",") comma (omega arith) ns found rest a e h)
+    rw (more_is ns) (lines_again Fits decimal EndsNumber reader.decimal number_reads (codes ",") comma comma_some ns found rest a e h)
 
 ends_more : (ns rest : List ℕ) → EndsNumber rest → EndsNumber (more_numbers ns ++ rest)
 ends_more [] rest h = h
@@ -50,7 +51,7 @@ AreNumbers bs ns rest = All Fits ns × (numbers_text ns ++ rest ≡ bs)
 
 some_sound : (bs ns rest : List ℕ) → some_numbers bs ≡ Some (ns, rest) → AreNumbers bs ns rest
 some_sound bs ns rest e =
-    let p = then_parts (reader.decimal bs) (λ first. numbers_after (first ∷ [])) (ns, rest) e in
+    let p = then_parts (reader.decimal bs) (λ first. list_after (first ∷ []) next_number) (ns, rest) e in
     let n = decimal_sound bs p.0.1 p.0.0 p.1 in
     let w = after_sound (p.0.0 ∷ []) p.0.1 ns rest p.2 in
     let joined : (decimal p.0.0 ++ more_numbers w.0) ++ rest ≡ bs = append_assoc (decimal p.0.0) (more_numbers w.0) rest ∙ ap (λ v. decimal p.0.0 ++ v) w.3 ∙ n.1 in
@@ -79,9 +80,6 @@ numbers_again (n ∷ ns) rest a e h =
 abbrev entry_text : ℕ → List ℕ
 entry_text k = decimal k ++ codes " -\n"
 
-abbrev Anything : List ℕ → Type 0
-Anything r = Unit {0}
-
 entry_sound : (bs rest : List ℕ) (k : ℕ) → entry bs ≡ Some (k, rest) → Fits k × (entry_text k ++ rest ≡ bs)
 unfolding entry
 entry_sound bs rest k e =
@@ -104,12 +102,12 @@ entry_again k rest h u =
 entry_reads : Reads Fits entry_text Anything entry
 entry_reads = record { sound = entry_sound; again = entry_again }
 
+entry_word : 1 ≤ length (codes "entry ")
+entry_word = omega arith
+
 entries_sound : (bs ks rest : List ℕ) → entries bs ≡ Some (ks, rest) → All Fits ks × (flat_map entry_line ks ++ rest ≡ bs)
 unfolding entries
-entries_sound bs ks rest e =
-    let w = each_sound Fits entry_text Anything entry entry_reads (codes "entry ") (length bs + 1) [] bs ks rest e in
-    let P : List ℕ → Type 0 = λ v. All Fits v × (flat_map entry_line v ++ rest ≡ bs) in
-    subst P (sym w.1) (w.2, w.3)
+entries_sound bs ks rest e = lines_sound Fits entry_text Anything entry entry_reads (codes "entry ") (λ _. tt) entry_word bs ks rest e
 
 -- a text that does not go on with an entry's line
 abbrev NoEntry : List ℕ → Type 0
@@ -117,7 +115,7 @@ NoEntry r = skip (codes "entry ") r ≡ None
 
 entries_again : (ks rest : List ℕ) → All Fits ks → NoEntry rest → entries (flat_map entry_line ks ++ rest) ≡ Some (ks, rest)
 unfolding entries
-entries_again ks rest a e = whole_list Fits entry_text Anything entry entry_reads (codes "entry ") (λ _. tt) (omega arith) ks [] rest a e tt
+entries_again ks rest a e = lines_again Fits entry_text Anything entry entry_reads (codes "entry ") (λ _. tt) entry_word ks [] rest a e tt
 
 -- ---- clusters
 
@@ -168,17 +166,17 @@ cluster_again c rest h e =
 cluster_reads : Reads FitsLine cluster_text NoEntry cluster
 cluster_reads = record { sound = cluster_sound; again = cluster_again }
 
-pub clusters_sound : (bs : List ℕ) (cs : List ClusterLine) (rest : List ℕ) → clusters bs ≡ Some (cs, rest) → All FitsLine cs × (flat_map cluster_lines cs ++ rest ≡ bs)
-unfolding clusters
-clusters_sound bs cs rest e =
-    let w = each_sound FitsLine cluster_text NoEntry cluster cluster_reads (codes "cluster ") (length bs + 1) [] bs cs rest e in
-    let P : List ClusterLine → Type 0 = λ v. All FitsLine v × (flat_map cluster_lines v ++ rest ≡ bs) in
-    subst P (sym w.1) (w.2, w.3)
-
 no_entry : (r : List ℕ) → NoEntry (codes "cluster " ++ r)
 unfolding skip
 no_entry r = refl
 
+cluster_word : 1 ≤ length (codes "cluster ")
+cluster_word = omega arith
+
+pub clusters_sound : (bs : List ℕ) (cs : List ClusterLine) (rest : List ℕ) → clusters bs ≡ Some (cs, rest) → All FitsLine cs × (flat_map cluster_lines cs ++ rest ≡ bs)
+unfolding clusters
+clusters_sound bs cs rest e = lines_sound FitsLine cluster_text NoEntry cluster cluster_reads (codes "cluster ") no_entry cluster_word bs cs rest e
+
 pub clusters_again : (cs : List ClusterLine) (rest : List ℕ) → All FitsLine cs → skip (codes "cluster ") rest ≡ None → NoEntry rest → clusters (flat_map cluster_lines cs ++ rest) ≡ Some (cs, rest)
 unfolding clusters
-clusters_again cs rest a e h = whole_list FitsLine cluster_text NoEntry cluster cluster_reads (codes "cluster ") no_entry (omega arith) cs [] rest a e h
+clusters_again cs rest a e h = lines_again FitsLine cluster_text NoEntry cluster cluster_reads (codes "cluster ") no_entry cluster_word cs [] rest a e h

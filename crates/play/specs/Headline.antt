@@ -9,12 +9,11 @@ use Rattle.play.specs.declared.outcome.End.{End}
 use Rattle.play.specs.declared.outcome.End.TheVariants as end
 use Rattle.play.specs.Run.{Mark, Called, Uncaught, Idle, Entered, Needed}
 use Rattle.play.specs.Page.{original}
-use Rattle.play.specs.Loader.{Line, CallLine, UncaughtLine}
-use Rattle.play.specs.Report.{lines_text, ended_text, out_of_steps_text}
+use Rattle.play.specs.Report.{Line, CallLine, UncaughtLine, lines_text, ended_text, out_of_steps_text}
 use Rattle.play.specs.ManifestReader.{read_manifest}
 use Rattle.play.specs.Site.{manifest_name, script_name, read_script_file, site_tree, stub_numbers, entries}
 use Rattle.play.specs.PutBack.{PutsBack}
-use Rattle.play.specs.Laws.{seen, IsPrefix}
+use Rattle.play.specs.Laws.{seen, ending, Ended, IsPrefix}
 
 -- the host calls and the uncaught exceptions among a report's lines
 abbrev pub call_line : Line → List Line → List Line
@@ -58,8 +57,13 @@ abbrev pub end_text : End → ℕ → List ℕ
 end_text end.Ended steps = ended_text steps
 end_text end.OutOfSteps steps = out_of_steps_text steps
 
--- the calls that the report shows are the original's under n steps where it ended, and a front of them otherwise; and those that the original shows under m are a
--- front of them, where n is 32 m + 32 at the least
+-- the script's own run comes to its end within so many steps
+abbrev pub EndsWithin : Script → ℕ → Type 0
+EndsWithin script m = ending (original script m) ≡ Ended
+
+-- the calls that the report shows are the original's under n steps where it ended, and a front of
+-- them otherwise; those that the original shows under m steps are a front of them, where n is
+-- 32 m + 32 at the least; and where the original ends within these m steps, so has the report
 pub record ShowsOriginal (report : List ℕ) (e : End) (script : Script) (n : ℕ) : Type 0 where
   pub lines : List Line
   pub steps : ℕ
@@ -67,3 +71,4 @@ pub record ShowsOriginal (report : List ℕ) (e : End) (script : Script) (n : �
   pub whole : e ≡ end.Ended → calls lines ≡ original_calls script n
   pub within : IsPrefix (calls lines) (original_calls script n)
   pub reached : (m : ℕ) → 32 * m + 32 ≤ n → IsPrefix (original_calls script m) (calls lines)
+  pub ends : (m : ℕ) → 32 * m + 32 ≤ n → EndsWithin script m → e ≡ end.Ended

@@ -64,17 +64,17 @@ times (OutOfSteps s) = []
 times (IsStuck s) = []
 
 -- how a run ends, without its steps, which differ between the two runs
-pub data Ending : Type 0 where
-  Ended : Ending
-  RanOut : Ending
-  Broke : Ending
+pub data EndKind : Type 0 where
+  Ended : EndKind
+  RanOut : EndKind
+  Broke : EndKind
 
-abbrev pub without_steps : RunEnd → Ending
+abbrev pub without_steps : RunEnd → EndKind
 without_steps (Walk.Ended steps) = Ended
 without_steps (Walk.RanOut steps) = RanOut
 without_steps Walk.Broke = Broke
 
-abbrev pub ending : Trace → Ending
+abbrev pub ending : Trace → EndKind
 ending t = without_steps (end_of t)
 
 pub record IsPrefix {A : Type 0} (xs ys : List A) : Type 0 where

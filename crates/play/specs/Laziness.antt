@@ -7,18 +7,18 @@ use Rattle.play.specs.declared.outcome.End.{End}
 use Rattle.play.specs.declared.outcome.End.TheVariants as end
 use Rattle.play.specs.Run.{Mark, Called, Uncaught, Idle, Entered, Needed}
 use Rattle.play.specs.Page.{original}
-use Rattle.play.specs.Loader.{Line, CallLine, UncaughtLine, IdleLine, WaitLine, AskLine, HereLine}
+use Rattle.play.specs.Report.{Line, CallLine, UncaughtLine, IdleLine, WaitLine, AskLine, HereLine, lines_text}
 use Rattle.play.specs.Played.{site_lines}
-use Rattle.play.specs.Report.{lines_text}
-use Rattle.play.specs.Headline.{end_text}
+use Rattle.play.specs.Headline.{EndsWithin, end_text}
 use Rattle.play.specs.Laws.{IsPrefix}
 
 -- the walk over the marks of the original run under n steps
 abbrev pub original_lines : Manifest → Script → ℕ → List Line
 original_lines m script n = site_lines m (original script n)
 
--- the report's lines but the last are those of the original's marks under n steps where it ended, and a front of them otherwise; and those of its marks under m
--- are a front of them, where n is 32 m + 32 at the least
+-- the report's lines but the last are those of the original's marks under n steps where it ended,
+-- and a front of them otherwise; those of its marks under fewer steps are a front of them, where n
+-- is 32 times them and 32 at the least; and where the original ends within these, so has the report
 pub record ShowsLoads (m : Manifest) (report : List ℕ) (e : End) (script : Script) (n : ℕ) : Type 0 where
   pub lines : List Line
   pub steps : ℕ
@@ -26,6 +26,7 @@ pub record ShowsLoads (m : Manifest) (report : List ℕ) (e : End) (script : Scr
   pub whole : e ≡ end.Ended → lines ≡ original_lines m script n
   pub within : IsPrefix lines (original_lines m script n)
   pub reached : (fewer : ℕ) → 32 * fewer + 32 ≤ n → IsPrefix (original_lines m script fewer) lines
+  pub ends : (fewer : ℕ) → 32 * fewer + 32 ≤ n → EndsWithin script fewer → e ≡ end.Ended
 
 -- ---- the same lines without a loader
 

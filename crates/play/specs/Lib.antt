@@ -6,9 +6,9 @@ pub mod Manifest
 pub mod ManifestReader
 pub mod Site
 pub mod PutBack
+pub mod Report
 pub mod Loader
 pub mod Walk
-pub mod Report
 pub mod Played
 pub mod Rows
 pub mod Machine
@@ -18,3 +18,9 @@ pub mod Answers
 pub mod Laws
 pub mod Laziness
 pub mod Headline
+pub mod RowsHeadline
+pub mod RowsPutBack
+pub mod RowsValue
+pub mod RowsTree
+pub mod RowsSite
+pub mod RowsLoader

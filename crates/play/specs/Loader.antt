@@ -1,20 +1,6 @@
 -- The loader: which clusters were asked for and which are here, and what each event does.
 use Rattle.std.specs.Prelude.{ℕ, ◌-◌, List, [], ◌∷◌, ◌++◌, map, filter, take, Option, Some, None, cond, nat_eq, Bool, true, false, count_by}
-use Rattle.play.specs.Value.{Shown}
-use Rattle.js_tree.specs.Tree.{Name}
-
--- ---- the lines of a report but the last
-
-pub data Line : Type 0 where
-  CallLine : (name : Name) → (args : List Shown) → Line
-  UncaughtLine : (v : Shown) → Line
-  IdleLine : Line
-  EventLine : (k : ℕ) → Line
-  WaitLine : (c : ℕ) → Line
-  AskLine : (c : ℕ) → Line
-  HereLine : (c : ℕ) → Line
-  LostLine : (c : ℕ) → Line
-  CutLine : (c : ℕ) → Line
+use Rattle.play.specs.Report.{Line, WaitLine, AskLine, HereLine, LostLine, CutLine}
 
 -- ---- the state
 
@@ -24,11 +10,11 @@ pub data Status : Type 0 where
   Here : Status
 
 -- the status of each cluster, in rising order of the clusters
-abbrev pub Table : Type 0
-Table = List (ℕ × Status)
+abbrev pub Statuses : Type 0
+Statuses = List (ℕ × Status)
 
 pub record Loader : Type 0 where
-  pub table : Table
+  pub table : Statuses
   pub waited : Option ℕ
   pub background : Bool
 
@@ -36,11 +22,11 @@ pub record Loader : Type 0 where
 abbrev pub fresh : List ℕ → Loader
 fresh clusters = record { table = map (λ c. (c, Absent)) clusters; waited = None; background = false }
 
-abbrev pub status_of : Table → ℕ → Status
+abbrev pub status_of : Statuses → ℕ → Status
 status_of [] c = Absent
 status_of (p ∷ ps) c = cond (nat_eq p.0 c) p.1 (status_of ps c)
 
-abbrev pub with_status : Table → ℕ → Status → Table
+abbrev pub with_status : Statuses → ℕ → Status → Statuses
 with_status [] c new = []
 with_status (p ∷ ps) c new = cond (nat_eq p.0 c) ((p.0, new) ∷ ps) (p ∷ with_status ps c new)
 
@@ -60,7 +46,7 @@ pub record Moved : Type 0 where
 abbrev pub stays : Loader → Moved
 stays l = record { loader = l; lines = [] }
 
-abbrev pub moves : Table → Option ℕ → Bool → List Line → Moved
+abbrev pub moves : Statuses → Option ℕ → Bool → List Line → Moved
 moves table waited background lines = record { loader = record { table = table; waited = waited; background = background }; lines = lines }
 
 abbrev pub is_waited : Option ℕ → ℕ → Bool
@@ -118,10 +104,10 @@ is_absent Asked = false
 is_absent Here = false
 
 -- the least absent clusters, as many as there is room for in the window
-abbrev pub to_ask : ℕ → Table → List ℕ
+abbrev pub to_ask : ℕ → Statuses → List ℕ
 to_ask window table = take (window - count_by (λ p. is_asked p.1) table) (map (λ p. p.0) (filter (λ p. is_absent p.1) table))
 
-abbrev pub ask_all : Table → List ℕ → Table
+abbrev pub ask_all : Statuses → List ℕ → Statuses
 ask_all table [] = table
 ask_all table (c ∷ cs) = ask_all (with_status table c Asked) cs
 

@@ -26,9 +26,9 @@ use Rattle.play.specs.Run.{Entered, State, Trace, Say, Stack, function_named, ru
 use Rattle.play.specs.Site.{line_of, ClusterFile, cluster_name}
 use Rattle.play.specs.Loader
 use Rattle.play.specs.Walk.{Ended, RanOut, Broke, walk, end_of}
-use Rattle.play.specs.Report.{line_text, lines_text, ended_text, out_of_steps_text}
+use Rattle.play.specs.Report.{line_text, lines_text, ended_text, out_of_steps_text, WaitLine, AskLine, HereLine}
 use Rattle.play.specs.declared.outcome.End.TheVariants as end
-use Rattle.play.specs.Played.{Answer, Gives, Lacks, Refuses, Broken, Answered, Ending, Reports, LacksFile, RefusesFile, reads, cluster_of, cluster_names}
+use Rattle.play.specs.Played.{Answer, Gives, Lacks, Refuses, Broken, Answered, Walked, Reports, LacksFile, RefusesFile, reads, cluster_of, cluster_names}
 use Rattle.play.specs.declared.outcome.FirstFile.TheVariants as first
 
 -- ---- trees of the code
@@ -89,7 +89,7 @@ abbrev pub status : Option (List Entry) → Loader.Status
 status None = Loader.Absent
 status (Some es) = Loader.Here
 
-abbrev pub statuses : List ClusterLine → List (Option (List Entry)) → Loader.Table
+abbrev pub statuses : List ClusterLine → List (Option (List Entry)) → Loader.Statuses
 statuses [] ls = []
 statuses (c ∷ cs) [] = (c.cluster, Loader.Absent) ∷ statuses cs []
 statuses (c ∷ cs) (l ∷ ls) = (c.cluster, status l) ∷ statuses cs ls
@@ -99,7 +99,7 @@ loader_of t = record { table = statuses t.manifest.clusters t.loaded; waited = N
 
 -- ---- the answer, where a report was begun
 
-abbrev pub answer_after : List ℕ → List ℕ → Ending → Answer
+abbrev pub answer_after : List ℕ → List ℕ → Walked → Answer
 answer_after folder report (Reports lines (Ended n)) = Gives (report ++ (lines_text lines ++ ended_text n)) end.Ended
 answer_after folder report (Reports lines (RanOut n)) = Gives (report ++ (lines_text lines ++ out_of_steps_text n)) end.OutOfSteps
 answer_after folder report (Reports lines Broke) = Broken
@@ -158,7 +158,12 @@ with_entries t place es = record { manifest = t.manifest; functions = t.function
 
 -- the lines of a cluster that is needed and comes at once
 abbrev pub arrived_report : List ℕ → ℕ → List ℕ
-arrived_report report c = ((report ++ line_text (Loader.WaitLine c)) ++ line_text (Loader.AskLine c)) ++ line_text (Loader.HereLine c)
+arrived_report report c =
+    ((report ++ line_text (WaitLine c)) ++ line_text (AskLine c))
+    ++ line_text (HereLine c)
+
+abbrev pub with_arrival : Machine → ℕ → Machine
+with_arrival m c = record m { report = arrived_report m.report c }
 
 -- ---- the machine
 

@@ -1,29 +1,25 @@
--- The text of a manifest, read from its front. What was read is a manifest if it passes the tests of its form, which stand
--- below the readers.
-use Rattle.std.specs.Prelude.{ℕ, zero, suc, ◌+◌, ◌^◌, Bool, true, not, ◌&&◌, nat_le, nat_lt, nat_eq, if◌then◌else◌, length, List, [], ◌∷◌, ◌++◌, Option, Some, None, codes}
+-- The text of a manifest, read from its front. What was read is a manifest if it passes the tests
+-- of its form, which stand below the readers.
+use Rattle.std.specs.Prelude.{ℕ, Bool, true, not, ◌&&◌, nat_le, nat_lt, nat_eq, if◌then◌else◌}
+use Rattle.std.specs.Prelude.{length, List, [], ◌∷◌, Option, Some, None, codes}
 use Rattle.std.specs.List.{list_all}
-use Rattle.js_parser.specs.Reader.{is_function_number}
-use Rattle.text_reader.specs.Reader.{Found, Reader, ◌>>=◌, ◌>>◌, pure, refuse, either, skip, ended, decimal}
+use Rattle.js_tree.specs.Numbering.{is_function_number}
+use Rattle.text_reader.specs.Reader.{Found, Reader, ◌>>=◌, ◌>>◌, pure, either}
+use Rattle.text_reader.specs.Reader.{skip, ended, decimal, behind, list_after}
 use Rattle.play.specs.declared.manifest.ClusterLine.{ClusterLine}
 use Rattle.play.specs.declared.manifest.Manifest.{Manifest}
-use Rattle.play.specs.Manifest.{cluster_numbers, all_numbers}
-
--- ---- lists
-
--- what `read` reads behind `front`, again and again while `front` comes, after those found; in fewer than so many turns
-unfoldable pub each : {A : Type 0} → List ℕ → Reader A → ℕ → List A → Reader (List A)
-each front read zero found = refuse
-each front read (suc n) found = either (skip front) (read >>= (λ x. each front read n (found ++ x ∷ []))) (pure found)
+use Rattle.play.specs.Manifest.{cluster_numbers, all_numbers, most_script_bytes, most_cluster_bytes}
 
 -- ---- the lines
 
-unfoldable pub numbers_after : List ℕ → Reader (List ℕ)
-numbers_after found = λ bs. each (codes ",") decimal (length bs + 1) found bs
+-- a number behind a comma, or the end of numbers
+abbrev pub next_number : Reader (Option ℕ)
+next_number = behind (codes ",") decimal
 
 abbrev pub some_numbers : Reader (List ℕ)
 some_numbers = do
   first ← decimal
-  numbers_after (first ∷ [])
+  list_after (first ∷ []) next_number
 
 -- numbers joined by commas, or `-`
 unfoldable pub numbers : Reader (List ℕ)
@@ -36,8 +32,12 @@ entry = do
   skip (codes " -\n")
   pure k
 
+-- an entry's line, or the end of entries
+abbrev pub next_entry : Reader (Option ℕ)
+next_entry = behind (codes "entry ") entry
+
 unfoldable pub entries : Reader (List ℕ)
-entries = λ bs. each (codes "entry ") entry (length bs + 1) [] bs
+entries = list_after [] next_entry
 
 -- a cluster's lines, behind the first word
 unfoldable pub cluster : Reader ClusterLine
@@ -49,8 +49,12 @@ cluster = do
   ks ← entries
   pure (record { cluster = number; bytes = bytes; entries = ks })
 
+-- a cluster's lines, or the end of clusters
+abbrev pub next_cluster : Reader (Option ClusterLine)
+next_cluster = behind (codes "cluster ") cluster
+
 unfoldable pub clusters : Reader (List ClusterLine)
-clusters = λ bs. each (codes "cluster ") cluster (length bs + 1) [] bs
+clusters = list_after [] next_cluster
 
 unfoldable pub manifest : Reader Manifest
 manifest = do
@@ -75,7 +79,7 @@ abbrev pub are_entries : List ℕ → Bool
 are_entries ks = nat_lt 0 (length ks) && (rises 0 ks && list_all is_function_number ks)
 
 abbrev pub is_cluster_line : ClusterLine → Bool
-is_cluster_line c = nat_le c.bytes (2 ^ 31) && are_entries c.entries
+is_cluster_line c = nat_le c.bytes most_cluster_bytes && are_entries c.entries
 
 abbrev pub is_distinct : List ℕ → Bool
 is_distinct [] = true
@@ -83,8 +87,9 @@ is_distinct (n ∷ ns) = list_all (λ k. not (nat_eq n k)) ns && is_distinct ns
 
 unfoldable pub has_lines_of_form : Manifest → Bool
 has_lines_of_form m =
-    nat_le m.script_bytes 65535
-    && (list_all is_function_number m.plain && (list_all is_cluster_line m.clusters && rises 0 (cluster_numbers m.clusters)))
+    nat_le m.script_bytes most_script_bytes
+    && (list_all is_function_number m.plain
+    && (list_all is_cluster_line m.clusters && rises 0 (cluster_numbers m.clusters)))
 
 unfoldable pub is_manifest : Manifest → Bool
 is_manifest m = has_lines_of_form m && is_distinct (all_numbers m)

@@ -15,35 +15,35 @@ use Rattle.play.specs.ManifestReader.{read_manifest}
 use Rattle.play.specs.Run.{Trace}
 use Rattle.play.specs.Page.{written}
 use Rattle.play.specs.Site.{manifest_name, script_name, cluster_name, line_of, site_tree, read_script_file, ClusterFile, Absent, Refused, Accepted, cluster_file, entries}
-use Rattle.play.specs.Loader.{Line, HereLine, fresh}
+use Rattle.play.specs.Report.{Line, HereLine, lines_text, ended_text, out_of_steps_text}
+use Rattle.play.specs.Loader.{fresh}
 use Rattle.play.specs.Walk.{RunEnd, Ended, RanOut, Broke, walk, end_of}
 use Rattle.play.specs.Manifest.{cluster_numbers}
-use Rattle.play.specs.Report.{lines_text, ended_text, out_of_steps_text}
 
 -- ---- the lines and the end
 
-pub data Ending : Type 0 where
-  Reports : (lines : List Line) → (end : RunEnd) → Ending
-  LacksFile : (c : ℕ) → Ending
-  RefusesFile : (c : ℕ) → Ending
+pub data Walked : Type 0 where
+  Reports : (lines : List Line) → (end : RunEnd) → Walked
+  LacksFile : (c : ℕ) → Walked
+  RefusesFile : (c : ℕ) → Walked
 
-abbrev pub with_line : Line → Ending → Ending
+abbrev pub with_line : Line → Walked → Walked
 with_line line (Reports lines e) = Reports (line ∷ lines) e
 with_line line (LacksFile c) = LacksFile c
 with_line line (RefusesFile c) = RefusesFile c
 
 -- a cluster comes
-abbrev pub comes : ℕ → ClusterFile → Ending → Ending
+abbrev pub comes : ℕ → ClusterFile → Walked → Walked
 comes c Absent rest = LacksFile c
 comes c Refused rest = RefusesFile c
 comes c (Accepted es) rest = with_line (HereLine c) rest
 
-abbrev pub after_line : (ℕ → ClusterFile) → Line → Ending → Ending
+abbrev pub after_line : (ℕ → ClusterFile) → Line → Walked → Walked
 after_line file (HereLine c) rest = comes c (file c) rest
 after_line file line rest = with_line line rest
 
 -- the lines of a walk, up to the first cluster that comes and is not accepted
-abbrev pub reads : (ℕ → ClusterFile) → List Line → RunEnd → Ending
+abbrev pub reads : (ℕ → ClusterFile) → List Line → RunEnd → Walked
 reads file [] e = Reports [] e
 reads file (line ∷ lines) e = after_line file line (reads file lines e)
 
@@ -86,7 +86,7 @@ abbrev pub site_lines : Manifest → Trace → List Line
 site_lines m t = walk (cluster_of m) (fresh (cluster_numbers m.clusters)) t
 
 -- what is played for a run of the site
-abbrev pub site_played : Files → List ℕ → Manifest → Trace → Ending
+abbrev pub site_played : Files → List ℕ → Manifest → Trace → Walked
 site_played files folder m t = reads (file_of files folder m) (site_lines m t) (end_of t)
 
 abbrev pub site_names : Files → List ℕ → Manifest → Trace → List (List ℕ)
@@ -106,7 +106,7 @@ report lines (Ended steps) = Gives (lines_text lines ++ ended_text steps) end.En
 report lines (RanOut steps) = Gives (lines_text lines ++ out_of_steps_text steps) end.OutOfSteps
 report lines Broke = Broken
 
-abbrev pub answer_of : List ℕ → Ending → Answer
+abbrev pub answer_of : List ℕ → Walked → Answer
 answer_of folder (Reports lines e) = report lines e
 answer_of folder (LacksFile c) = Lacks (cluster_name folder c)
 answer_of folder (RefusesFile c) = Refuses (first.Cluster c)

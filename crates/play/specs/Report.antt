@@ -3,8 +3,23 @@ use Rattle.std.specs.Prelude.{ℕ, List, [], ◌∷◌, ◌++◌, codes}
 use Rattle.std.specs.List.{flat_map}
 use Rattle.std.specs.Fmt.{decimal}
 use Rattle.dl_text.specs.Quote.{quoted}
+use Rattle.js_tree.specs.Tree.{Name}
 use Rattle.play.specs.Value.{Shown, ShownUndefined, ShownText, ShownObject}
-use Rattle.play.specs.Loader.{Line, CallLine, UncaughtLine, IdleLine, EventLine, WaitLine, AskLine, HereLine, LostLine, CutLine}
+
+-- ---- the lines of a report but the last
+
+pub data Line : Type 0 where
+  CallLine : (name : Name) → (args : List Shown) → Line
+  UncaughtLine : (v : Shown) → Line
+  IdleLine : Line
+  EventLine : (k : ℕ) → Line
+  WaitLine : (c : ℕ) → Line
+  AskLine : (c : ℕ) → Line
+  HereLine : (c : ℕ) → Line
+  LostLine : (c : ℕ) → Line
+  CutLine : (c : ℕ) → Line
+
+-- ---- their text
 
 abbrev pub shown_text : Shown → List ℕ
 shown_text ShownUndefined = codes "undefined"

@@ -1,20 +1,62 @@
--- A worked site: two functions, the second of which is a stub.
-use Rattle.std.specs.Prelude.{◌≡◌, ℕ, List, [], ◌∷◌, codes, Some, None, Option, cond, nat_eq, refl}
-use Rattle.js_tree.specs.Tree
+-- The worked site of `examples/first`, its files, its trees and its original.
+use Rattle.std.specs.Prelude.{ℕ, List, [], ◌∷◌, ◌++◌, codes, Some, None, Option, cond, nat_eq}
+use Rattle.std.specs.Str.{bytes_eq}
+use Rattle.dl_ports.specs.Files.{Files}
+use Rattle.js_tree.specs.Tree.{Func, Script}
+use Rattle.js_parser.specs.First.{out_name}
 use Rattle.js_parser.specs.declared.first.FirstStatement.TheVariants.{Call, Out}
 use Rattle.js_parser.specs.declared.first.FirstBody.TheVariants.{Statements, Stub}
+use Rattle.js_parser.specs.declared.first.FirstEntry.{FirstEntry}
 use Rattle.js_parser.specs.declared.first.FirstItem.{FirstItem}
 use Rattle.js_parser.specs.declared.first.FirstItem.TheVariants.{Statement, Function}
-use Rattle.play.specs.Page.{written, original}
-use Rattle.play.specs.Run.{Trace}
+use Rattle.play.specs.declared.manifest.Manifest.{Manifest}
 use Rattle.play.specs.Site.{site_tree, late_function}
-use Rattle.play.specs.PutBack.{back}
-use Rattle.js_parser.specs.First.{out_name}
-use Rattle.play.specs.Value.{ShownText, ShownObject}
-use Rattle.play.specs.Loader.{fresh, CallLine, UncaughtLine, IdleLine, WaitLine, AskLine, HereLine}
-use Rattle.play.specs.Walk.{Ended, end_of, walk}
-use Rattle.play.specs.Laws.{seen}
-use Rattle.play.specs.Laziness.{lazy_lines}
+use Rattle.play.specs.Played.{Answer, Answered}
+use Rattle.play.specs.Value.{ShownText}
+use Rattle.play.specs.Report.{Line, CallLine, IdleLine, WaitLine, AskLine, HereLine}
+use Rattle.play.specs.Run.{Mark, Called, Trace, Say, End, OutOfSteps, IsStuck}
+
+-- ---- its files
+
+abbrev pub manifest_bytes : List ℕ
+manifest_bytes =
+    codes "doloto site 1\nform 1\nscript 1 117 1\ncluster 1 33\nentry 2 -\nend\n"
+
+abbrev pub script_bytes : List ℕ
+script_bytes =
+    codes "function f(){host.out(\"one\");}"
+    ++ (codes "function g(){return eval($dl_get(2)).apply(this,arguments);}"
+    ++ codes "f();g();host.out(\"three\");\n")
+
+abbrev pub cluster_bytes : List ℕ
+cluster_bytes = codes "2 (function(){host.out(\"two\");})\n"
+
+-- a file of this name, before others
+abbrev pub with_file : List ℕ → List ℕ → Files → Files
+with_file name bytes others = λ asked. cond (bytes_eq asked name) (Some bytes) (others asked)
+
+abbrev pub no_files : Files
+no_files asked = None
+
+abbrev pub folder : List ℕ
+folder = codes "site"
+
+abbrev pub without_cluster : Files
+without_cluster =
+    with_file (codes "site/site.txt") manifest_bytes
+    (with_file (codes "site/s1.js") script_bytes no_files)
+
+abbrev pub files : Files
+files = with_file (codes "site/c1.txt") cluster_bytes without_cluster
+
+-- ---- what they hold
+
+abbrev pub manifest : Manifest
+manifest = record {
+  script_bytes = 117;
+  plain = 1 ∷ [];
+  clusters = record { cluster = 1; bytes = 33; entries = 2 ∷ [] } ∷ [];
+}
 
 abbrev pub items : List FirstItem
 items =
@@ -22,42 +64,60 @@ items =
     ∷ Function (record { name = 103; body = Stub 2 })
     ∷ Statement (Call 102) ∷ Statement (Call 103) ∷ Statement (Out (codes "three")) ∷ []
 
-abbrev pub entry_two : ℕ → Option Tree.Func
-entry_two k = cond (nat_eq k 2) (Some (late_function 2 (record { number = 2; body = Out (codes "two") ∷ [] }))) None
+abbrev pub entry : FirstEntry
+entry = record { number = 2; body = Out (codes "two") ∷ [] }
 
--- the written run takes 35 steps
-pub rows : end_of (written entry_two (site_tree (1 ∷ []) items) 100) ≡ Ended 35
-rows = refl
+abbrev pub entry_two : ℕ → Option Func
+entry_two k = cond (nat_eq k 2) (Some (late_function 2 entry)) None
 
--- its lines
-pub report : walk (λ k. cond (nat_eq k 2) (Some 1) None) (fresh (1 ∷ [])) (written entry_two (site_tree (1 ∷ []) items) 100)
-    ≡ CallLine out_name (ShownText (codes "one") ∷ []) ∷ WaitLine 1 ∷ AskLine 1 ∷ HereLine 1 ∷ CallLine out_name (ShownText (codes "two") ∷ []) ∷ CallLine out_name (ShownText (codes "three") ∷ []) ∷ IdleLine ∷ []
-report = refl
+abbrev pub script : Script
+script = site_tree (1 ∷ []) items
 
--- the original that it puts back to takes 27
-abbrev pub put_back : List FirstItem
-put_back =
+-- ---- the original that they put back to
+
+abbrev pub original_items : List FirstItem
+original_items =
     Function (record { name = 102; body = Statements (Out (codes "one") ∷ []) })
     ∷ Function (record { name = 103; body = Statements (Out (codes "two") ∷ []) })
     ∷ Statement (Call 102) ∷ Statement (Call 103) ∷ Statement (Out (codes "three")) ∷ []
 
-pub puts_back : back entry_two (site_tree (1 ∷ []) items) ≡ Some (site_tree (1 ∷ 2 ∷ []) put_back)
-puts_back = refl
+abbrev pub original_script : Script
+original_script = site_tree (1 ∷ 2 ∷ []) original_items
 
-pub original_steps : end_of (original (site_tree (1 ∷ 2 ∷ []) put_back) 100) ≡ Ended 27
-original_steps = refl
+-- ---- its lines
 
--- and the lines of its marks, where the second function's entry is in cluster 1, are those of the report
-pub original_waits : lazy_lines (λ k. cond (nat_eq k 2) (Some 1) None) [] (seen (original (site_tree (1 ∷ 2 ∷ []) put_back) 100))
-    ≡ CallLine out_name (ShownText (codes "one") ∷ []) ∷ WaitLine 1 ∷ AskLine 1 ∷ HereLine 1 ∷ CallLine out_name (ShownText (codes "two") ∷ []) ∷ CallLine out_name (ShownText (codes "three") ∷ []) ∷ IdleLine ∷ []
-original_waits = refl
+abbrev pub out_line : List ℕ → Line
+out_line text = CallLine out_name (ShownText text ∷ [])
 
--- a call of no function takes 4 steps, and its error leaves the script
-abbrev pub unbound : Trace
-unbound = written (λ k. None) (site_tree [] (Statement (Call 113) ∷ [])) 100
+abbrev pub out_mark : List ℕ → Mark
+out_mark text = Called out_name (ShownText text ∷ [])
 
-pub uncaught : walk (λ k. None) (fresh []) unbound ≡ UncaughtLine (ShownObject 1) ∷ IdleLine ∷ []
-uncaught = refl
+abbrev pub lines : List Line
+lines =
+    out_line (codes "one")
+    ∷ WaitLine 1 ∷ AskLine 1 ∷ HereLine 1
+    ∷ out_line (codes "two")
+    ∷ out_line (codes "three")
+    ∷ IdleLine ∷ []
 
-pub uncaught_steps : end_of unbound ≡ Ended 4
-uncaught_steps = refl
+-- ---- answers
+
+abbrev pub answered : Answer → List (List ℕ) → Answered
+answered answer asked = record { answer = answer; asked = asked }
+
+-- ---- runs
+
+pub record Timed : Type 0 where
+  pub mark : Mark
+  pub steps : ℕ
+
+-- a mark and the steps taken when it was made
+abbrev pub at : Mark → ℕ → Timed
+at mark steps = record { mark = mark; steps = steps }
+
+-- all the marks of a run
+abbrev pub marks : Trace → List Timed
+marks (Say m i t) = at m i ∷ marks t
+marks (End o s) = []
+marks (OutOfSteps s) = []
+marks (IsStuck s) = []

@@ -1,5 +1,5 @@
 -- The site as its files give it: the manifest, the script's tree, and the entries of the clusters whose files are accepted.
-use Rattle.std.specs.Prelude.{ℕ, suc, List, [], ◌∷◌, ◌++◌, length, map, Option, Some, None, is_some, cond, nat_eq, Bool, ◌&&◌, codes}
+use Rattle.std.specs.Prelude.{◌≡◌, ℕ, suc, true, List, [], ◌∷◌, ◌++◌, length, map, Option, Some, None, is_some, cond, nat_eq, Bool, ◌&&◌, codes}
 use Rattle.std.specs.Str.{bytes_eq}
 use Rattle.std.specs.List.{list_any, list_all}
 use Rattle.std.specs.Fmt.{decimal}
@@ -13,7 +13,7 @@ use Rattle.js_parser.specs.declared.first.FirstItem.{FirstItem}
 use Rattle.js_parser.specs.declared.first.FirstItem.TheVariants as item
 use Rattle.js_parser.specs.declared.first.FirstEntry.{FirstEntry}
 use Rattle.js_parser.specs.declared.first.FirstScript.{FirstScript}
-use Rattle.js_parser.specs.Reader.{read_script, read_cluster}
+use Rattle.js_parser.specs.FirstReader.{read_script, read_cluster}
 use Rattle.play.specs.declared.manifest.ClusterLine.{ClusterLine}
 use Rattle.play.specs.declared.manifest.Manifest.{Manifest}
 
@@ -84,6 +84,15 @@ line_of (c ∷ cs) k = cond (list_any (nat_eq k) c.entries) (Some c) (line_of cs
 
 abbrev pub is_listed : List ClusterLine → ℕ → Bool
 is_listed cs k = is_some (line_of cs k)
+
+-- each of these numbers is that of an entry
+abbrev pub OnlyListed : List ClusterLine → List ℕ → Type 0
+OnlyListed lines numbers = list_all (is_listed lines) numbers ≡ true
+
+-- each stub is that of an entry, and there are as many plain functions as the manifest has numbers
+pub record Fits (m : Manifest) (items : List FirstItem) : Type 0 where
+  pub listed : OnlyListed m.clusters (stub_numbers items)
+  pub plain : plain_count items ≡ length m.plain
 
 abbrev pub items_of : Manifest → Option FirstScript → Option (List FirstItem)
 items_of m None = None

@@ -2,7 +2,8 @@
 use Rattle.std.specs.Prelude.{ℕ, List, [], ◌∷◌, ◌++◌, Option, Some, None}
 use Rattle.play.specs.Run.{Mark, Called, Uncaught, Idle, Entered, Needed, Trace, Say, End, OutOfSteps, IsStuck}
 use Rattle.play.specs.Loader
-use Rattle.play.specs.Loader.{Line, CallLine, UncaughtLine, IdleLine, Loader as State, Moved, stays, Status, Need, Arrive, status_of, step}
+use Rattle.play.specs.Report.{Line, CallLine, UncaughtLine, IdleLine}
+use Rattle.play.specs.Loader.{Loader as State, Moved, stays, Status, Need, Arrive, status_of, step}
 
 abbrev pub after_need : Moved → Moved → Moved
 after_need needed arrived = record { loader = arrived.loader; lines = needed.lines ++ arrived.lines }

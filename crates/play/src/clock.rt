@@ -13,7 +13,8 @@ pub struct Clock {
 impl Clock {
     /// The clock of a run whose first step is taken, if the budget has one.
     pub fn begin(budget: u64) -> Option<Clock>
-        ensures { MatchOption result (budget ≡ 0) (λ c. (budget ≡ c.left + 1) × (c.steps ≡ 1) × (c.beats ≡ 0)) }
+        ensures { MatchOption result (budget ≡ 0)
+            (λ c. (budget ≡ c.left + 1) × (c.steps ≡ 1) × (c.beats ≡ 0)) }
     {
         if budget == 0 {
             return None;
@@ -27,7 +28,11 @@ impl Clock {
 
     /// Takes so many steps, if they are left.
     pub fn take(&mut self, count: u64) -> bool
-        ensures { MatchBool result ((self.old.left ≡ self.new.left + count) × (self.new.steps ≡ self.old.steps + count) × (self.new.beats ≡ self.old.beats)) ((self.old.left < count) × (self.new ≡ self.old)) }
+        ensures { MatchBool result
+            ((self.old.left ≡ self.new.left + count)
+            × (self.new.steps ≡ self.old.steps + count)
+            × (self.new.beats ≡ self.old.beats))
+            ((self.old.left < count) × (self.new ≡ self.old)) }
     {
         if self.left < count {
             return false;

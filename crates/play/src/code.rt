@@ -73,7 +73,7 @@ impl Rest {
     }
 
     /// Goes on behind the next statement, if there is one.
-    #[tactic(auto, using(crate::proofs::Lists::passed_one, crate::proofs::Lists::passed_none))]
+    #[tactic(auto, using(crate::proofs::ListLemmas::passed_one, crate::proofs::ListLemmas::passed_none))]
     pub fn pass(&mut self)
         ensures { self.new ≡ drop 1 self.old }
     {

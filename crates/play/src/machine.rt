@@ -1,16 +1,16 @@
 ghost use Rattle.std.specs.Prelude.{◌≡◌, ◌+◌, ◌<◌, ◌∷◌, ◌++◌, [], List, ℕ, drop, map, IfOk, OnOk, IsSome, MatchOption, slice_get};
 ghost use Rattle.js_parser.specs.First.{out_name};
 ghost use Rattle.play.specs.Value.{ShownText};
-ghost use Rattle.play.specs.Loader.{CallLine, IdleLine};
-ghost use Rattle.play.specs.Report.{line_text};
+ghost use Rattle.play.specs.Report.{CallLine, IdleLine, line_text};
 ghost use Rattle.play.specs.Run.{function_named};
 ghost use Rattle.play.specs.Machine.{func_of, IsSound, StubIs, Halts, Turns, work};
 ghost use Rattle.play.specs.Calls.{IsCall, IsOut, IsNamed, PlainNamed, StubNamed, IsHere, HereNamed};
 
 use crate::clock::Clock;
 use crate::code::{Code, Rest};
-use crate::table::{Body, Entry, EntryPlace, Frame, Function, Place, Table};
-use dl_text::{Text, push_quoted_unit};
+use crate::report::{push_call, push_idle, push_uncaught};
+use crate::table::{Body, Continuation, Entry, EntryPlace, Frame, Function, Table};
+use dl_text::Text;
 use js_parser::FirstStatement;
 use sqlite_items::Items;
 use std::alloc::AllocError;
@@ -28,13 +28,14 @@ pub enum Halt {
 /// The run of a script: where it is, what waits, the steps and beats, and the report so far.
 #[derive(Drop)]
 pub struct Machine {
-    pub place: Place,
+    pub place: Continuation,
     pub frames: Items<Frame>,
     pub clock: Clock,
     pub report: Text,
 }
 
-/// The steps of an expression statement that calls a name, up to the value of the name (ES3 sections 12.4, 11.2.3, 10.1.4).
+/// The steps of an expression statement that calls a name, up to the value of the name (ES3
+/// sections 12.4, 11.2.3, 10.1.4).
 const NAME_STEPS: u64 = 3;
 
 /// The same with the function's entry.
@@ -46,22 +47,10 @@ const OUT_STEPS: u64 = 6;
 /// The steps of a stub's body up to the late function's body (ES3 sections 12.9, 11.2.3, 15.3.4.3).
 const STUB_STEPS: u64 = 8;
 
-/// Adds the line of a host call.
-#[tactic(auto, using(crate::proofs::Texts::call_written))]
-fn push_call(report: &mut Text, text: &Text) -> Result<(), AllocError>
-    ensures { OnOk result (report.new ≡ report.old ++ line_text (CallLine out_name (ShownText text.now ∷ []))) }
-{
-    report.extend(b"call out \"")?;
-    for byte in text.items() {
-        push_quoted_unit(report, u16::from(*byte))?;
-    }
-    report.extend(b"\"\n")?;
-    Ok(())
-}
-
 /// Adds the line of the host call that stands first.
 fn push_first(report: &mut Text, rest: &Rest) -> Result<(), AllocError>
-    ensures { OnOk result ((text : List ℕ) → slice_get rest.now 0 ≡ Some (FirstStatement.Out text) → report.new ≡ report.old ++ line_text (CallLine out_name (ShownText text ∷ []))) }
+    ensures { OnOk result ((text : List ℕ) → slice_get rest.now 0 ≡ Some (FirstStatement.Out text)
+        → report.new ≡ report.old ++ line_text (CallLine out_name (ShownText text ∷ []))) }
 {
     match rest.first() {
         Some(FirstStatement::Out(text)) => push_call(report, text),
@@ -70,10 +59,12 @@ fn push_first(report: &mut Text, rest: &Rest) -> Result<(), AllocError>
 }
 
 /// The function that counts for a letter.
-#[tactic(auto, using(crate::proofs::Tables::named_found, crate::proofs::Tables::named_missing))]
+#[tactic(auto, using(crate::proofs::TableLemmas::named_found, crate::proofs::TableLemmas::named_missing))]
 fn function_named<'a>(table: &'a Table, letter: u8) -> Option<&'a Function>
     requires { IsSound table.now }
-    ensures { MatchOption result (function_named (map func_of table.now.functions) (letter ∷ []) ≡ None) (λ f. IsNamed table.now letter f.now) }
+    ensures { MatchOption result
+        (function_named (map func_of table.now.functions) (letter ∷ []) ≡ None)
+        (λ f. IsNamed table.now letter f.now) }
 {
     match table.names.get(usize::from(letter)) {
         None => None,
@@ -83,11 +74,13 @@ fn function_named<'a>(table: &'a Table, letter: u8) -> Option<&'a Function>
 }
 
 /// The entry of a stub, where its cluster is here.
-#[tactic(auto, using(crate::proofs::Tables::entry_found, crate::proofs::Tables::entry_missing))]
+#[tactic(auto, using(crate::proofs::TableLemmas::entry_found, crate::proofs::TableLemmas::entry_missing))]
 fn entry_at<'a>(table: &'a Table, number: u32, place: EntryPlace) -> Option<&'a Entry>
     requires sound { IsSound table.now }
     requires stub { StubIs table.now.manifest number place }
-    ensures { MatchOption result (slice_get table.now.loaded place.cluster ≡ Some None) (λ e. IsHere table.now number place e.now) }
+    ensures { MatchOption result
+        (slice_get table.now.loaded place.cluster ≡ Some None)
+        (λ e. IsHere table.now number place e.now) }
 {
     match table.loaded.get(place.cluster) {
         None => None,
@@ -140,12 +133,11 @@ impl Machine {
         ensures clock { self.new.clock ≡ self.old.clock }
         ensures report { OnOk result (self.new.report ≡ self.old.report ++ line_text IdleLine) }
     {
-        self.report.extend(b"idle\n")?;
-        Ok(())
+        push_idle(&mut self.report)
     }
 
     /// Goes on behind the call, where a body is over; the script's own ends the run.
-    #[tactic(auto, using(crate::proofs::Turned::keeps_call_return, crate::proofs::Turned::keeps_late_return, crate::proofs::Turned::ends_script))]
+    #[tactic(auto, using(crate::proofs::TurnLemmas::leaving))]
     fn leave(&mut self, table: &Table) -> Result<Option<Halt>, AllocError>
         requires { self.old.place.rest ≡ [] }
         ensures turns { IfOk result (Turns table.now self.old self.new) }
@@ -182,7 +174,7 @@ impl Machine {
     }
 
     /// A call of a name that no function has: a ReferenceError, which leaves the script.
-    #[tactic(auto, using(crate::proofs::Turned::ends_uncaught, crate::proofs::Turned::name_runs_out))]
+    #[tactic(auto, using(crate::proofs::TurnLemmas::ends_uncaught, crate::proofs::TurnLemmas::name_runs_out))]
     fn call_unbound(&mut self, table: &Table, letter: u8) -> Result<Option<Halt>, AllocError>
         requires here { IsCall letter self.old.place.rest }
         requires unbound { function_named (map func_of table.now.functions) (letter ∷ []) ≡ None }
@@ -192,13 +184,13 @@ impl Machine {
         if !self.clock.take(NAME_STEPS) {
             return Ok(self.run_out());
         }
-        self.report.extend(b"uncaught #1\n")?;
+        push_uncaught(&mut self.report)?;
         self.idle()?;
         Ok(Some(Halt::Ended))
     }
 
     /// A call of a plain function: its body runs in a scope inside the global one.
-    #[tactic(auto, using(crate::proofs::Turned::keeps_plain, crate::proofs::Turned::call_runs_out))]
+    #[tactic(auto, using(crate::proofs::TurnLemmas::keeps_plain, crate::proofs::TurnLemmas::call_runs_out))]
     fn call_plain(
         &mut self,
         table: &Table,
@@ -220,19 +212,26 @@ impl Machine {
         Ok(None)
     }
 
-    /// Begins a body, with so many functions' scopes around its statements, and gives the place behind the call.
-    fn go_to(&mut self, code: &Code, depth: u64) -> Result<Place, AllocError>
-        ensures back { IfOk result (λ back. (back.rest ≡ drop 1 self.old.place.rest) × (back.depth ≡ self.old.place.depth)) }
-        ensures place { OnOk result ((self.new.place.rest ≡ code.now) × (self.new.place.depth ≡ depth)) }
-        ensures others { OnOk result ((self.new.frames ≡ self.old.frames) × (self.new.clock ≡ self.old.clock) × (self.new.report ≡ self.old.report)) }
+    /// Begins a body, with so many functions' scopes around its statements, and gives where the
+    /// caller goes on.
+    fn go_to(&mut self, code: &Code, depth: u64) -> Result<Continuation, AllocError>
+        ensures back { IfOk result (λ back.
+            (back.rest ≡ drop 1 self.old.place.rest) × (back.depth ≡ self.old.place.depth)) }
+        ensures place { OnOk result
+            ((self.new.place.rest ≡ code.now) × (self.new.place.depth ≡ depth)) }
+        ensures others { OnOk result
+            ((self.new.frames ≡ self.old.frames)
+            × (self.new.clock ≡ self.old.clock)
+            × (self.new.report ≡ self.old.report)) }
     {
         let rest = Rest::new(code.share()?);
-        let mut back = mem::replace(&mut self.place, Place { rest, depth });
+        let mut back = mem::replace(&mut self.place, Continuation { rest, depth });
         back.rest.pass();
         Ok(back)
     }
 
-    /// A call of a stub. Its late function is made in the stub's scope, so its body has one scope more around it.
+    /// A call of a stub. Its late function is made in the stub's scope, so its body has one scope
+    /// more around it.
     fn call_stub(
         &mut self,
         table: &Table,
@@ -253,8 +252,9 @@ impl Machine {
         }
     }
 
-    /// A call of a stub whose cluster is not here: where the entry's step is left, the cluster is needed first.
-    #[tactic(auto, using(crate::proofs::Turned::call_runs_out, crate::proofs::Turned::needs_next, crate::proofs::Turned::keeps_same))]
+    /// A call of a stub whose cluster is not here: where the entry's step is left, the cluster is
+    /// needed first.
+    #[tactic(auto, using(crate::proofs::TurnLemmas::needing))]
     fn need(&mut self, table: &Table, letter: u8, number: u32, place: EntryPlace) -> Option<Halt>
         requires here { IsCall letter self.old.place.rest }
         requires named { StubNamed table.now letter number }
@@ -270,7 +270,7 @@ impl Machine {
     }
 
     /// A call of a stub whose cluster is here.
-    #[tactic(auto, using(crate::proofs::Turned::keeps_late, crate::proofs::Turned::call_runs_out, crate::proofs::Turned::late_runs_out))]
+    #[tactic(auto, using(crate::proofs::TurnLemmas::calling_late))]
     fn call_late(
         &mut self,
         table: &Table,

@@ -1,6 +1,6 @@
-ghost use Rattle.std.specs.Prelude.{◌≡◌, Some, IfOk};
-ghost use Rattle.std.specs.Option.{IfSome};
-ghost use Rattle.play.specs.Manifest.{IsManifest, manifest_text};
+ghost use Rattle.std.specs.Prelude.{◌≡◌, IfOk};
+ghost use Rattle.text_reader.specs.Gives.{IfRead, IsRead};
+ghost use Rattle.play.specs.Manifest.{IsManifestOf};
 ghost use Rattle.play.specs.ManifestReader as reader;
 
 mod form;
@@ -8,7 +8,7 @@ mod read;
 
 use sqlite_items::Items;
 use std::alloc::{AllocError, Global};
-use text_reader::{Cursor, Refusal};
+use text_reader::{Cursor, or_none};
 
 /// Numbers of functions.
 pub type Numbers = Items<u32>;
@@ -23,8 +23,8 @@ pub struct ClusterLine {
 
 pub type ClusterLines = Items<ClusterLine>;
 
-/// A manifest of form 1 with one script: the length of the script's file, the numbers of its plain functions in the
-/// order of the text, and the clusters.
+/// A manifest of form 1 with one script: the length of the script's file, the numbers of its plain
+/// functions in the order of the text, and the clusters.
 #[derive(Drop)]
 pub struct Manifest {
     pub script_bytes: u32,
@@ -32,18 +32,24 @@ pub struct Manifest {
     pub clusters: ClusterLines,
 }
 
-/// The manifest whose text these bytes are, or `None` where they are no manifest's text. Fails only for want of memory.
 #[tactic(auto, unfolding(crate::specs::ManifestReader::read_manifest))]
-pub fn read_manifest(alloc: Global, bytes: &[u8]) -> Result<Option<Manifest>, AllocError>
-    ensures reads { IfOk result (λ r. r ≡ reader.read_manifest bytes.now) }
-    ensures sound { IfOk result (λ r. IfSome r (λ m. IsManifest m × (manifest_text m ≡ bytes.now))) }
-    ensures complete { (m : Manifest) → IsManifest m → manifest_text m ≡ bytes.now → IfOk result (λ r. r ≡ Some m) }
+fn manifest_of(alloc: Global, bytes: &[u8]) -> Result<Option<Manifest>, AllocError>
+    ensures { IfOk result (λ found. found ≡ reader.read_manifest bytes.now) }
 {
-    match read::manifest(alloc, &mut Cursor::new(bytes)) {
-        Ok(manifest) => Ok(form::is_manifest(alloc, &manifest)?.then_some(manifest)),
-        Err(Refusal::NotOfForm) => Ok(None),
-        Err(Refusal::OutOfMemory) => Err(AllocError),
+    match or_none(read::manifest(alloc, &mut Cursor::new(bytes)))? {
+        Some(manifest) => Ok(form::is_manifest(alloc, &manifest)?.then_some(manifest)),
+        None => Ok(None),
     }
+}
+
+/// The manifest whose text these bytes are, or `None` where they are no manifest's text. Fails only
+/// for want of memory.
+pub fn read_manifest(alloc: Global, bytes: &[u8]) -> Result<Option<Manifest>, AllocError>
+    ensures reads { IfOk result (λ found. found ≡ reader.read_manifest bytes.now) }
+    ensures sound { IfRead result (IsManifestOf bytes.now) }
+    ensures complete { (m : Manifest) → IsManifestOf bytes.now m → IsRead result m }
+{
+    manifest_of(alloc, bytes)
 }
 
 #[cfg(test)]
@@ -114,7 +120,8 @@ mod tests {
             b"doloto site 1\nform 2\nscript 1 117 1\ncluster 1 33\nentry 2 -\nend\n",
             b"doloto site 1\nform 1\nscript 1 117 1\ncluster 1 33\nentry 2 -\nentry 2 -\nend\n",
             b"doloto site 1\nform 1\nscript 1 117 2\ncluster 1 33\nentry 2 -\nend\n",
-            b"doloto site 1\nform 1\nscript 1 117 1\ncluster 2 33\nentry 2 -\ncluster 2 33\nentry 3 -\nend\n",
+            b"doloto site 1\nform 1\nscript 1 117 1\ncluster 2 33\nentry 2 -\ncluster 2 33\n\
+            entry 3 -\nend\n",
             b"doloto site 1\nform 1\nscript 1 65536 1\ncluster 1 33\nentry 2 -\nend\n",
             b"doloto site 1\nform 1\nscript 1 0117 1\ncluster 1 33\nentry 2 -\nend\n",
             b"doloto site 1\nform 1\nscript 1 117 1\ncluster 1 33\nend\n",

@@ -1,26 +1,26 @@
-ghost use Rattle.std.specs.Prelude.{◌≡◌, ◌≤◌, ◌<◌, ◌++◌, [], length, map, Some, true, string_bytes, IfOk, IfErr, IsErrOf, OnOk};
-ghost use Rattle.dl_ports.specs.Counts.{Rose};
-ghost use Rattle.dl_ports.specs.Files.{Files, and_name};
-ghost use Rattle.play.specs.Site.{manifest_name, script_name, is_listed, stub_numbers, plain_count};
-ghost use Rattle.std.specs.List.{list_all};
+ghost use Rattle.std.specs.Prelude.{◌≡◌, ◌<◌, ◌++◌, length, map, Some, true, string_bytes, IfOk, IfErr, IsErrOf, OnOk};
+ghost use Rattle.std.specs.Option.{ForSome};
+ghost use Rattle.dl_ports.specs.Stores.{OnlyReads};
+ghost use Rattle.play.specs.Site.{Fits, manifest_name, script_name};
 ghost use Rattle.play.specs.Played.{played, is_page, for_script, for_manifest, for_folder, played_page};
 ghost use Rattle.js_tree.specs.Tree.{Script};
 ghost use Rattle.play.specs.Headline.{PutsBackTo, ShowsOriginal};
 ghost use Rattle.play.specs.Laziness.{ShowsLoads};
 ghost use Rattle.play.specs.Manifest.{IsManifest};
 ghost use Rattle.play.specs.Tables.{statements_of};
-ghost use Rattle.play.specs.Answers.{Meets, ErrorMeets, NeedFails, Fetches, FetchFails, Loads, OneMore, SiteAgrees, site_left};
-ghost use Rattle.play.specs.Machine.{IsSound, entry_number, NeedsNext, with_entries, arrived_report, begun};
+ghost use Rattle.play.specs.Answers.{Meets, ErrorMeets, Finds, NeedFails, Fetches, FetchFails, Loads, OneMore, SiteAgrees, site_left};
+ghost use Rattle.play.specs.Machine.{IsSound, entry_number, NeedsNext, with_entries, with_arrival, begun};
 ghost use Rattle.play.specs.Report.{numbered_line};
 
 use crate::clock::Clock;
-use crate::clusters::{cluster_name, push_arrival, push_numbered, read_cluster};
+use crate::clusters::{cluster_name, read_cluster};
 use crate::code::{Code, Rest};
 use crate::machine::{Halt, Machine};
 use crate::manifest::{ClusterLine, Manifest, read_manifest};
 use crate::outcome::{End, FirstError, FirstFile, Outcome};
+use crate::report::{push_arrival, push_numbered};
 use crate::site::{read_script, statements_of, table_of};
-use crate::table::{Entries, Place, Table};
+use crate::table::{Continuation, Entries, Table};
 use dl_ports::Store;
 use dl_text::Text;
 use js_parser::FirstItem;
@@ -48,12 +48,11 @@ fn text_of(alloc: Global, bytes: &[u8]) -> Result<Text, AllocError>
 
 /// The bytes of a file that is needed.
 fn read_needed<S: Store>(alloc: Global, name: &str, store: &mut S) -> Result<Vec<u8>, FirstError>
-    ensures found { IfOk result (λ bytes. (files : Files) → S.files store.old ≡ Some files → (files name.now ≡ Some bytes.items) × (S.asked store.new ≡ and_name (S.asked store.old) name.now)) }
-    ensures refused { IfErr result (λ e. (files : Files) → S.files store.old ≡ Some files → NeedFails files name.now (S.asked store.old) (S.asked store.new) e) }
-    ensures same_files { S.files store.new ≡ S.files store.old }
-    ensures later { S.faults store.old ≤ S.faults store.new }
-    ensures cause { IsErrOf result FirstError.ReadFault → Rose (S.faults store.old) (S.faults store.new) }
-    ensures same_write_faults { S.write_faults store.new ≡ S.write_faults store.old }
+    ensures found { IfOk result (λ bytes. ForSome (S.files store.old) (λ files.
+        Finds files name.now (S.asked store.old) (S.asked store.new) bytes.items)) }
+    ensures refused { IfErr result (λ e. ForSome (S.files store.old) (λ files.
+        NeedFails files name.now (S.asked store.old) (S.asked store.new) e)) }
+    ensures reads { OnlyReads S.Store store.old store.new (IsErrOf result FirstError.ReadFault) }
 {
     match store.read(name)? {
         Some(bytes) => Ok(bytes),
@@ -62,20 +61,19 @@ fn read_needed<S: Store>(alloc: Global, name: &str, store: &mut S) -> Result<Vec
 }
 
 /// The entries of a cluster, from its file.
-#[tactic(auto, using(crate::proofs::Loaded::numbers_of_loaded))]
+#[tactic(auto, using(crate::proofs::EntryLemmas::numbers_of_loaded))]
 fn fetch<S: Store>(
     alloc: Global,
     line: &ClusterLine,
     folder: &str,
     store: &mut S,
 ) -> Result<Entries, FirstError>
-    ensures fetched { IfOk result (λ es. (files : Files) → S.files store.old ≡ Some files → Fetches files folder.now line.now es (S.asked store.old) (S.asked store.new)) }
+    ensures fetched { IfOk result (λ es. ForSome (S.files store.old) (λ files.
+        Fetches files folder.now line.now es (S.asked store.old) (S.asked store.new))) }
     ensures listed { IfOk result (λ es. map entry_number es ≡ line.now.entries) }
-    ensures refused { IfErr result (λ e. (files : Files) → S.files store.old ≡ Some files → FetchFails files folder.now line.now (S.asked store.old) (S.asked store.new) e) }
-    ensures same_files { S.files store.new ≡ S.files store.old }
-    ensures later { S.faults store.old ≤ S.faults store.new }
-    ensures cause { IsErrOf result FirstError.ReadFault → Rose (S.faults store.old) (S.faults store.new) }
-    ensures same_write_faults { S.write_faults store.new ≡ S.write_faults store.old }
+    ensures refused { IfErr result (λ e. ForSome (S.files store.old) (λ files.
+        FetchFails files folder.now line.now (S.asked store.old) (S.asked store.new) e)) }
+    ensures reads { OnlyReads S.Store store.old store.new (IsErrOf result FirstError.ReadFault) }
 {
     let name = cluster_name(alloc, folder, line.cluster)?;
     let bytes = read_needed(alloc, name.as_str(), store)?;
@@ -85,7 +83,8 @@ fn fetch<S: Store>(
     }
 }
 
-/// The machine and the table where a cluster that it needs has come: its lines stand in the report before its entries run.
+/// The machine and the table where a cluster that it needs has come: its lines stand in the report
+/// before its entries run.
 fn arrive(
     alloc: Global,
     table: &mut Table,
@@ -96,7 +95,7 @@ fn arrive(
 ) -> Result<(), AllocError>
     requires { place < length table.old.loaded }
     ensures table { OnOk result (table.new ≡ with_entries table.old place entries) }
-    ensures machine { OnOk result (machine.new ≡ record machine.old { report = arrived_report machine.old.report cluster }) }
+    ensures machine { OnOk result (machine.new ≡ with_arrival machine.old cluster) }
 {
     push_arrival(alloc, &mut machine.report, cluster)?;
     table.loaded.set(place, Some(entries));
@@ -115,12 +114,13 @@ fn load<S: Store>(
     requires sound { IsSound table.old }
     requires needs { NeedsNext table.old machine.old place }
     ensures more { OnOk result (OneMore table.old table.new) }
-    ensures loads { OnOk result ((files : Files) → S.files store.old ≡ Some files → Loads files folder.now table.old table.new machine.old machine.new (S.asked store.old) (S.asked store.new)) }
-    ensures refused { IfErr result (λ e. (files : Files) → S.files store.old ≡ Some files → ErrorMeets (site_left files folder.now table.old machine.old) (S.asked store.old) (S.asked store.new) e) }
-    ensures same_files { S.files store.new ≡ S.files store.old }
-    ensures later { S.faults store.old ≤ S.faults store.new }
-    ensures cause { IsErrOf result FirstError.ReadFault → Rose (S.faults store.old) (S.faults store.new) }
-    ensures same_write_faults { S.write_faults store.new ≡ S.write_faults store.old }
+    ensures loads { OnOk result (ForSome (S.files store.old) (λ files.
+        Loads files folder.now table.old table.new machine.old machine.new
+        (S.asked store.old) (S.asked store.new))) }
+    ensures refused { IfErr result (λ e. ForSome (S.files store.old) (λ files.
+        ErrorMeets (site_left files folder.now table.old machine.old)
+        (S.asked store.old) (S.asked store.new) e)) }
+    ensures reads { OnlyReads S.Store store.old store.new (IsErrOf result FirstError.ReadFault) }
 {
     let line = &table.manifest.clusters.as_slice()[place];
     let cluster = line.cluster;
@@ -137,7 +137,8 @@ fn finish(
     steps: u64,
     end: End,
 ) -> Result<Outcome, FirstError>
-    ensures outcome { IfOk result (λ o. (o.report ≡ report ++ numbered_line word.now steps) × (o.end ≡ end)) }
+    ensures outcome { IfOk result (λ o.
+        (o.report ≡ report ++ numbered_line word.now steps) × (o.end ≡ end)) }
     ensures memory { IfErr result (λ e. e ≡ FirstError.OutOfMemory) }
 {
     let mut report = report;
@@ -154,11 +155,10 @@ fn run_site<S: Store>(
     store: &mut S,
 ) -> Result<Outcome, FirstError>
     requires sound { IsSound table }
-    ensures meets { (files : Files) → S.files store.old ≡ Some files → SiteAgrees files folder.now table → Meets (site_left files folder.now table machine) (S.asked store.old) (S.asked store.new) result }
-    ensures same_files { S.files store.new ≡ S.files store.old }
-    ensures later { S.faults store.old ≤ S.faults store.new }
-    ensures cause { IsErrOf result FirstError.ReadFault → Rose (S.faults store.old) (S.faults store.new) }
-    ensures same_write_faults { S.write_faults store.new ≡ S.write_faults store.old }
+    ensures meets { ForSome (S.files store.old) (λ files. SiteAgrees files folder.now table →
+        Meets (site_left files folder.now table machine)
+        (S.asked store.old) (S.asked store.new) result) }
+    ensures reads { OnlyReads S.Store store.old store.new (IsErrOf result FirstError.ReadFault) }
 {
     let mut table = table;
     let mut machine = machine;
@@ -189,7 +189,7 @@ fn start(alloc: Global, items: &[FirstItem], clock: Clock) -> Result<Machine, Al
 {
     let code = Code::new(alloc, statements_of(alloc, items)?)?;
     Ok(Machine {
-        place: Place {
+        place: Continuation {
             rest: Rest::new(code),
             depth: 0,
         },
@@ -209,13 +209,11 @@ fn run_script<S: Store>(
     store: &mut S,
 ) -> Result<Outcome, FirstError>
     requires form { IsManifest manifest }
-    requires plain { plain_count items.now ≡ length manifest.plain }
-    requires listed { list_all (is_listed manifest.clusters) (stub_numbers items.now) ≡ true }
-    ensures meets { (files : Files) → S.files store.old ≡ Some files → Meets (for_script files folder.now steps manifest (Some items.now)) (S.asked store.old) (S.asked store.new) result }
-    ensures same_files { S.files store.new ≡ S.files store.old }
-    ensures later { S.faults store.old ≤ S.faults store.new }
-    ensures cause { IsErrOf result FirstError.ReadFault → Rose (S.faults store.old) (S.faults store.new) }
-    ensures same_write_faults { S.write_faults store.new ≡ S.write_faults store.old }
+    requires fits { Fits manifest items.now }
+    ensures meets { ForSome (S.files store.old) (λ files.
+        Meets (for_script files folder.now steps manifest (Some items.now))
+        (S.asked store.old) (S.asked store.new) result) }
+    ensures reads { OnlyReads S.Store store.old store.new (IsErrOf result FirstError.ReadFault) }
 {
     let Some(clock) = Clock::begin(steps) else {
         return finish(
@@ -247,11 +245,10 @@ fn play_script<S: Store>(
     store: &mut S,
 ) -> Result<Outcome, FirstError>
     requires form { IsManifest manifest }
-    ensures meets { (files : Files) → S.files store.old ≡ Some files → Meets (for_manifest files folder.now steps (Some manifest)) (S.asked store.old) (S.asked store.new) result }
-    ensures same_files { S.files store.new ≡ S.files store.old }
-    ensures later { S.faults store.old ≤ S.faults store.new }
-    ensures cause { IsErrOf result FirstError.ReadFault → Rose (S.faults store.old) (S.faults store.new) }
-    ensures same_write_faults { S.write_faults store.new ≡ S.write_faults store.old }
+    ensures meets { ForSome (S.files store.old) (λ files.
+        Meets (for_manifest files folder.now steps (Some manifest))
+        (S.asked store.old) (S.asked store.new) result) }
+    ensures reads { OnlyReads S.Store store.old store.new (IsErrOf result FirstError.ReadFault) }
 {
     let name = script_name(alloc, folder)?;
     let bytes = read_needed(alloc, name.as_str(), store)?;
@@ -275,11 +272,10 @@ fn play_folder<S: Store>(
     steps: u64,
     store: &mut S,
 ) -> Result<Outcome, FirstError>
-    ensures meets { (files : Files) → S.files store.old ≡ Some files → Meets (for_folder files folder.now steps) (S.asked store.old) (S.asked store.new) result }
-    ensures same_files { S.files store.new ≡ S.files store.old }
-    ensures later { S.faults store.old ≤ S.faults store.new }
-    ensures cause { IsErrOf result FirstError.ReadFault → Rose (S.faults store.old) (S.faults store.new) }
-    ensures same_write_faults { S.write_faults store.new ≡ S.write_faults store.old }
+    ensures meets { ForSome (S.files store.old) (λ files.
+        Meets (for_folder files folder.now steps)
+        (S.asked store.old) (S.asked store.new) result) }
+    ensures reads { OnlyReads S.Store store.old store.new (IsErrOf result FirstError.ReadFault) }
 {
     let name = manifest_name(alloc, folder)?;
     let bytes = read_needed(alloc, name.as_str(), store)?;
@@ -291,10 +287,11 @@ fn play_folder<S: Store>(
 
 /// Plays the site of a folder of the store for a page's bytes, under a budget of steps.
 ///
-/// Where the store's files are told, the result is the one of `played`, and the names asked of the store are its names, in its order:
-/// all of them where there is an outcome or a file is refused or missing, a front of them after a fault or want of memory. Where they
-/// put back to a script, the report shows that script's host calls and uncaught exceptions, and waits for each cluster where that
-/// script first enters one of its functions.
+/// Where the store's files are told, the result is the one of `played`, and the names asked of the
+/// store are its names, in its order: all of them where there is an outcome or a file is refused or
+/// missing, a front of them after a fault or want of memory. Where they put back to a script, the
+/// report shows that script's host calls and uncaught exceptions, and waits for each cluster where
+/// that script first enters one of its functions.
 pub fn play_first<S: Store>(
     alloc: Global,
     page: &[u8],
@@ -302,13 +299,16 @@ pub fn play_first<S: Store>(
     steps: u64,
     store: &mut S,
 ) -> Result<Outcome, FirstError>
-    ensures meets { (files : Files) → S.files store.old ≡ Some files → Meets (played files folder.now page.now steps) (S.asked store.old) (S.asked store.new) result }
-    ensures headline { (files : Files) → S.files store.old ≡ Some files → (script : Script) → PutsBackTo files folder.now script → IfOk result (λ o. ShowsOriginal o.report o.end script steps) }
-    ensures laziness { (files : Files) → S.files store.old ≡ Some files → (script : Script) (back : PutsBackTo files folder.now script) → IfOk result (λ o. ShowsLoads back.manifest o.report o.end script steps) }
-    ensures same_files { S.files store.new ≡ S.files store.old }
-    ensures later { S.faults store.old ≤ S.faults store.new }
-    ensures cause { IsErrOf result FirstError.ReadFault → Rose (S.faults store.old) (S.faults store.new) }
-    ensures same_write_faults { S.write_faults store.new ≡ S.write_faults store.old }
+    ensures meets { ForSome (S.files store.old) (λ files.
+        Meets (played files folder.now page.now steps)
+        (S.asked store.old) (S.asked store.new) result) }
+    ensures headline { ForSome (S.files store.old) (λ files.
+        (script : Script) → PutsBackTo files folder.now script
+        → IfOk result (λ o. ShowsOriginal o.report o.end script steps)) }
+    ensures laziness { ForSome (S.files store.old) (λ files.
+        (script : Script) (back : PutsBackTo files folder.now script)
+        → IfOk result (λ o. ShowsLoads back.manifest o.report o.end script steps)) }
+    ensures reads { OnlyReads S.Store store.old store.new (IsErrOf result FirstError.ReadFault) }
 {
     if !is_page(page) {
         return Err(FirstError::First(FirstFile::Page));
@@ -326,13 +326,16 @@ pub fn play_page<S: Store>(
     steps: u64,
     store: &mut S,
 ) -> Result<Outcome, FirstError>
-    ensures meets { (files : Files) → S.files store.old ≡ Some files → Meets (played_page files folder.now page.now steps) (S.asked store.old) (S.asked store.new) result }
-    ensures headline { (files : Files) → S.files store.old ≡ Some files → (script : Script) → PutsBackTo files folder.now script → IfOk result (λ o. ShowsOriginal o.report o.end script steps) }
-    ensures laziness { (files : Files) → S.files store.old ≡ Some files → (script : Script) (back : PutsBackTo files folder.now script) → IfOk result (λ o. ShowsLoads back.manifest o.report o.end script steps) }
-    ensures same_files { S.files store.new ≡ S.files store.old }
-    ensures later { S.faults store.old ≤ S.faults store.new }
-    ensures cause { IsErrOf result FirstError.ReadFault → Rose (S.faults store.old) (S.faults store.new) }
-    ensures same_write_faults { S.write_faults store.new ≡ S.write_faults store.old }
+    ensures meets { ForSome (S.files store.old) (λ files.
+        Meets (played_page files folder.now page.now steps)
+        (S.asked store.old) (S.asked store.new) result) }
+    ensures headline { ForSome (S.files store.old) (λ files.
+        (script : Script) → PutsBackTo files folder.now script
+        → IfOk result (λ o. ShowsOriginal o.report o.end script steps)) }
+    ensures laziness { ForSome (S.files store.old) (λ files.
+        (script : Script) (back : PutsBackTo files folder.now script)
+        → IfOk result (λ o. ShowsLoads back.manifest o.report o.end script steps)) }
+    ensures reads { OnlyReads S.Store store.old store.new (IsErrOf result FirstError.ReadFault) }
 {
     let bytes = read_needed(alloc, page, store)?;
     play_first(alloc, bytes.as_slice(), folder, steps, store)

@@ -1,6 +1,6 @@
 ghost use Rattle.std.specs.Prelude.{◌≡◌, ◌+◌, ◌≤◌, [], List, ℕ, Some, None, true, false, length, map, IfOk, OnOk, IfSome, MatchOption, MatchBool, nat_eq, drop, replicate, slice_get};
-ghost use Rattle.std.specs.List.{list_any, list_all};
-ghost use Rattle.play.specs.Site.{line_of, is_listed, with_stub, stub_numbers, with_plain, plain_count, numbered, read_script_file, site_tree};
+ghost use Rattle.std.specs.List.{list_any};
+ghost use Rattle.play.specs.Site.{Fits, OnlyListed, line_of, with_stub, with_plain, numbered, read_script_file, site_tree};
 ghost use Rattle.play.specs.Program.{declared};
 ghost use Rattle.play.specs.Machine.{func_of, NamesAre, StubIs, BodyIs, BodiesAre};
 ghost use Rattle.play.specs.Tables.{Builds, statements_of};
@@ -8,7 +8,7 @@ ghost use Rattle.play.specs.Manifest.{IsManifest};
 
 use crate::code::Code;
 use crate::manifest::Manifest;
-use crate::table::{Body, EntryPlace, Function, Functions, Loaded, Names, Table};
+use crate::table::{Body, EntryPlace, Function, Functions, FunctionsByLetter, Loaded, Table};
 use dl_text::TryCopy;
 use js_parser::{
     FirstBody, FirstFunction, FirstItem, FirstItems, FirstStatement, FirstStatements,
@@ -19,7 +19,10 @@ use std::alloc::{AllocError, Global};
 
 /// The place of a number in a list.
 fn place_in(numbers: &[u32], number: u32) -> Option<usize>
-    ensures { MatchOption result (list_any (nat_eq number) numbers.now ≡ false) (λ place. (slice_get numbers.now place ≡ Some number) × (list_any (nat_eq number) numbers.now ≡ true)) }
+    ensures { MatchOption result
+        (list_any (nat_eq number) numbers.now ≡ false)
+        (λ place. (slice_get numbers.now place ≡ Some number)
+        × (list_any (nat_eq number) numbers.now ≡ true)) }
 {
     for (place, other) in numbers.iter().enumerate() {
         if number == *other {
@@ -31,7 +34,9 @@ fn place_in(numbers: &[u32], number: u32) -> Option<usize>
 
 /// Where an entry stands in a manifest.
 fn place_of(manifest: &Manifest, number: u32) -> Option<EntryPlace>
-    ensures { MatchOption result (line_of manifest.now.clusters number ≡ None) (StubIs manifest.now number) }
+    ensures { MatchOption result
+        (line_of manifest.now.clusters number ≡ None)
+        (StubIs manifest.now number) }
 {
     for (cluster, line) in manifest.clusters.as_slice().iter().enumerate() {
         if let Some(entry) = place_in(line.entries.as_slice(), number) {
@@ -41,9 +46,12 @@ fn place_of(manifest: &Manifest, number: u32) -> Option<EntryPlace>
     None
 }
 
-/// Whether every stub is that of an entry, and there are as many plain functions as the manifest has numbers for.
+/// Whether every stub is that of an entry, and there are as many plain functions as the manifest
+/// has numbers for.
 fn fits(manifest: &Manifest, items: &[FirstItem]) -> bool
-    ensures { MatchBool result ((list_all (is_listed manifest.now.clusters) (stub_numbers items.now) ≡ true) × (plain_count items.now ≡ length manifest.now.plain)) ((list_all (is_listed manifest.now.clusters) (stub_numbers items.now) ≡ true → plain_count items.now ≡ length manifest.now.plain → ⊥)) }
+    ensures { MatchBool result
+        (Fits manifest.now items.now)
+        (Fits manifest.now items.now → ⊥) }
 {
     let mut plain = 0usize;
     for item in items {
@@ -69,7 +77,7 @@ pub fn read_script(
     bytes: &[u8],
 ) -> Result<Option<FirstItems>, AllocError>
     ensures reads { IfOk result (λ items. items ≡ read_script_file manifest.now bytes.now) }
-    ensures fits { IfOk result (λ items. IfSome items (λ is. (plain_count is ≡ length manifest.now.plain) × (list_all (is_listed manifest.now.clusters) (stub_numbers is) ≡ true))) }
+    ensures fits { IfOk result (λ items. IfSome items (Fits manifest.now)) }
 {
     if bytes.len() != manifest.script_bytes as usize {
         return Ok(None);
@@ -119,7 +127,8 @@ pub fn statements_of(alloc: Global, items: &[FirstItem]) -> Result<FirstStatemen
     Ok(statements)
 }
 
-/// A function of the script: a plain one has the next number of the manifest, a stub that of its entry.
+/// A function of the script: a plain one has the next number of the manifest, a stub that of its
+/// entry.
 fn function_of(
     alloc: Global,
     manifest: &Manifest,
@@ -128,8 +137,9 @@ fn function_of(
 ) -> Result<Function, AllocError>
     requires form { IsManifest manifest.now }
     requires plain { next + with_plain function.now.body 0 ≤ length manifest.now.plain }
-    requires listed { list_all (is_listed manifest.now.clusters) (with_stub function.now.body []) ≡ true }
-    ensures is { IfOk result (λ f. func_of f ≡ numbered (drop next manifest.now.plain) function.now.name function.now.body) }
+    requires listed { OnlyListed manifest.now.clusters (with_stub function.now.body []) }
+    ensures is { IfOk result (λ f. func_of f
+        ≡ numbered (drop next manifest.now.plain) function.now.name function.now.body) }
     ensures body { IfOk result (λ f. BodyIs manifest.now f.number f.body) }
 {
     match &function.body {
@@ -154,16 +164,16 @@ fn function_of(
 }
 
 /// The functions of a script, in the order of the text.
-#[tactic(auto, using(crate::proofs::Functions::more_plain, crate::proofs::Functions::more_stub, crate::proofs::Functions::bodies_more))]
+#[tactic(auto, using(crate::proofs::FunctionLemmas::one_more))]
 fn functions_of(
     alloc: Global,
     manifest: &Manifest,
     items: &[FirstItem],
 ) -> Result<Functions, AllocError>
     requires form { IsManifest manifest.now }
-    requires plain { plain_count items.now ≡ length manifest.now.plain }
-    requires listed { list_all (is_listed manifest.now.clusters) (stub_numbers items.now) ≡ true }
-    ensures are { IfOk result (λ fs. map func_of fs ≡ declared (site_tree manifest.now.plain items.now)) }
+    requires fits { Fits manifest.now items.now }
+    ensures are { IfOk result (λ fs.
+        map func_of fs ≡ declared (site_tree manifest.now.plain items.now)) }
     ensures bodies { IfOk result (BodiesAre manifest.now) }
 {
     let mut functions = Items::new(alloc);
@@ -187,8 +197,8 @@ fn functions_of(
 const LETTERS: usize = 256;
 
 /// The place of the last function of each letter.
-#[tactic(auto, using(crate::proofs::Names::names_more))]
-fn names_of(alloc: Global, functions: &[Function]) -> Result<Names, AllocError>
+#[tactic(auto, using(crate::proofs::LetterLemmas::names_more))]
+fn names_of(alloc: Global, functions: &[Function]) -> Result<FunctionsByLetter, AllocError>
     ensures { IfOk result (NamesAre functions.now) }
 {
     let mut names = vec![in alloc; None; LETTERS]?;
@@ -212,8 +222,7 @@ fn none_loaded(alloc: Global, count: usize) -> Result<Loaded, AllocError>
 /// The table of a site, before a cluster is here.
 pub fn table_of(alloc: Global, manifest: Manifest, items: &[FirstItem]) -> Result<Table, AllocError>
     requires form { IsManifest manifest }
-    requires plain { plain_count items.now ≡ length manifest.plain }
-    requires listed { list_all (is_listed manifest.clusters) (stub_numbers items.now) ≡ true }
+    requires fits { Fits manifest items.now }
     ensures { IfOk result (Builds manifest items.now) }
 {
     let functions = functions_of(alloc, &manifest, items)?;

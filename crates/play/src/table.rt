@@ -2,7 +2,8 @@ use crate::code::{Code, Rest};
 use crate::manifest::Manifest;
 use sqlite_items::Items;
 
-/// Where an entry stands: the places of its cluster in the manifest and of the entry in the cluster.
+/// Where an entry stands: the places of its cluster in the manifest and of the entry in the
+/// cluster.
 #[derive(Clone, Copy)]
 pub struct EntryPlace {
     pub cluster: usize,
@@ -41,20 +42,21 @@ pub type Entries = Items<Entry>;
 pub type Loaded = Items<Option<Entries>>;
 
 /// The place of the function that counts, for each letter.
-pub type Names = Items<Option<usize>>;
+pub type FunctionsByLetter = Items<Option<usize>>;
 
 /// The code of a site, as far as it is here.
 #[derive(Drop)]
 pub struct Table {
     pub manifest: Manifest,
     pub functions: Functions,
-    pub names: Names,
+    pub names: FunctionsByLetter,
     pub loaded: Loaded,
 }
 
-/// What is still to run of a body, and how many functions' scopes enclose it.
+/// What is still to run of a body, and how many functions' scopes enclose it. The scopes of this
+/// grammar hold nothing, so their number serves the proofs alone.
 #[derive(Drop)]
-pub struct Place {
+pub struct Continuation {
     pub rest: Rest,
     pub depth: u64,
 }
@@ -62,7 +64,7 @@ pub struct Place {
 /// A call under way, by where it goes on.
 #[derive(Drop)]
 pub enum Frame {
-    Call(Place),
+    Call(Continuation),
     /// The call of a stub, whose late function runs.
-    Late(Place),
+    Late(Continuation),
 }

@@ -126,6 +126,11 @@ run_sound test bs front rest e =
     let whole = take-append-drop (prefix_len test bs) bs in
     (All-same (λ x. test x ≡ true) _ _ (sym p.0) (run_passes test bs), cc)
 
+-- what a run leaves
+pub run_rest : (test : ℕ → Bool) (bs front rest : List ℕ) → run test bs ≡ Some (front, rest) → rest ≡ drop (prefix_len test bs) bs
+unfolding run
+run_rest test bs front rest e = sym (same_parts (take (prefix_len test bs) bs) front (drop (prefix_len test bs) bs) rest e).1
+
 pub run_length : (test : ℕ → Bool) (cs : List ℕ) (c : ℕ) (r : List ℕ) → AllPass test cs → test c ≡ false → prefix_len test (cs ++ (c ∷ r)) ≡ length cs
 run_length test [] c r h e = rw e
 run_length test (b ∷ bs) c r h e =

@@ -1,4 +1,4 @@
-ghost use Rattle.std.specs.Prelude.{◌≡◌, ◌∷◌, ◌+◌, ◌≤◌, ℕ, Bool, MatchBool, IfErr, Some, None, length};
+ghost use Rattle.std.specs.Prelude.{◌≡◌, ◌+◌, ◌≤◌, ℕ, Bool, IfErr, OnErr, Some, length};
 ghost use Rattle.std.specs.List.{prefix_len};
 ghost use Rattle.text_reader.specs.Reader as reader;
 ghost use Rattle.text_reader.specs.Gives.{Gives, Eats, Decides};
@@ -53,7 +53,8 @@ impl<'a> Model for Cursor<'a> {
 fn front_length<F: Fn(u8) -> bool>(bytes: &[u8], passes: F) -> usize
     requires { F.IsAlwaysCallable passes }
     ensures within { result ≤ length bytes.now }
-    ensures is { (test : ℕ → Bool) → Decides (F.post passes) test → result ≡ prefix_len test bytes.now }
+    ensures is { (test : ℕ → Bool) → Decides (F.post passes) test
+        → result ≡ prefix_len test bytes.now }
 {
     for (i, byte) in bytes.iter().enumerate() {
         if !passes(*byte) {
@@ -72,7 +73,7 @@ impl<'a> Cursor<'a> {
     }
 
     /// One more than there are bytes left: more turns than any list in them takes.
-    pub fn turns(&self) -> usize
+    pub(crate) fn turns(&self) -> usize
         ensures { result ≡ length self.now + 1 }
     {
         self.rest.len() + 1
@@ -100,9 +101,10 @@ impl<'a> Cursor<'a> {
         self.rest.is_empty()
     }
 
-    /// Takes these bytes, which have to come next.
+    /// Takes these bytes, which have to come next. Where it refuses, it takes nothing.
     pub fn skip(&mut self, front: &[u8]) -> Result<(), Refusal>
         ensures gives { Gives (reader.skip front.now self.old) result self.new }
+        ensures stays { OnErr result (self.new ≡ self.old) }
         ensures needs_no_memory { IfErr result (λ e. e ≡ Refusal.NotOfForm) }
     {
         if self.eat(front) {
@@ -112,11 +114,13 @@ impl<'a> Cursor<'a> {
         }
     }
 
-    /// Takes one byte, which has to pass.
+    /// Takes one byte, which has to pass. Where it refuses, it takes nothing.
     #[tactic(auto, unfolding(crate::specs::Reader::one))]
     pub fn one<F: Fn(u8) -> bool>(&mut self, passes: F) -> Result<u8, Refusal>
         requires { F.IsAlwaysCallable passes }
-        ensures gives { (test : ℕ → Bool) → Decides (F.post passes) test → Gives (reader.one test self.old) result self.new }
+        ensures gives { (test : ℕ → Bool) → Decides (F.post passes) test
+            → Gives (reader.one test self.old) result self.new }
+        ensures stays { OnErr result (self.new ≡ self.old) }
         ensures needs_no_memory { IfErr result (λ e. e ≡ Refusal.NotOfForm) }
     {
         if let [first, rest @ ..] = self.rest {
@@ -140,10 +144,12 @@ impl<'a> Cursor<'a> {
         front
     }
 
-    /// Takes a decimal number below 2^32 with no zero in front of other digits.
+    /// Takes a decimal number below 2^32 with no zero in front of other digits. Where it refuses,
+    /// the digits are taken too.
     #[tactic(auto, unfolding(crate::specs::Reader::decimal))]
     pub fn decimal(&mut self) -> Result<u32, Refusal>
         ensures gives { Gives (reader.decimal self.old) result self.new }
+        ensures leaves { self.new ≡ reader.behind_digits self.old }
         ensures needs_no_memory { IfErr result (λ e. e ≡ Refusal.NotOfForm) }
     {
         let digits = self.run(numeral::is_digit);

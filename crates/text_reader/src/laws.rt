@@ -2,7 +2,8 @@ ghost use Rattle.std.specs.Prelude.{◌≡◌, ◌<◌, ◌^◌, ◌∷◌, ◌+
 ghost use Rattle.std.specs.Fmt.{decimal};
 ghost use Rattle.text_reader.specs.Reader as reader;
 
-/// Each number below 2^32 is read from its decimal digits, where no digit follows, and what is read has these digits.
+/// Each number below 2^32 is read from its decimal digits, where no digit follows, and what is read
+/// has these digits.
 pub fn decimals_read_back()
     ensures read { (k c : ℕ) → (rest : List ℕ) → k < 2 ^ 32 → reader.is_digit c ≡ false
         → reader.decimal (decimal k ++ (c ∷ rest)) ≡ Some (k, c ∷ rest) }

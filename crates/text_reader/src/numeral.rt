@@ -9,7 +9,8 @@ pub fn is_digit(byte: u8) -> bool
     byte >= b'0' && byte <= b'9'
 }
 
-/// The number that is written by these digits, if it is below 2^32 and no zero stands in front of others.
+/// The number that is written by these digits, if it is below 2^32 and no zero stands in front of
+/// others.
 pub fn number_of(digits: &[u8]) -> Option<u32>
     requires { AllPass reader.is_digit digits.now }
     ensures { result ≡ reader.number_of digits.now }

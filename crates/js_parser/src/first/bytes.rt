@@ -1,13 +1,11 @@
-ghost use Rattle.std.specs.Prelude.{◌≡◌, IfOk};
-ghost use Rattle.js_parser.specs.Reader as reader;
+ghost use Rattle.std.specs.Prelude.{◌≡◌};
+ghost use Rattle.js_parser.specs.FirstReader as reader;
 ghost use Rattle.text_reader.specs.Gives.{Gives};
 
 use dl_text::Text;
+use js_tree::LAST_FUNCTION_NUMBER;
 use std::alloc::Global;
 use text_reader::{Cursor, Refusal};
-
-/// The greatest number of a function.
-const LAST_NUMBER: u32 = 65535;
 
 fn is_letter(byte: u8) -> bool
     ensures { result ≡ reader.is_letter byte }
@@ -39,12 +37,12 @@ pub fn characters(alloc: Global, text: &mut Cursor<'_>) -> Result<Text, Refusal>
 }
 
 /// Takes a function number.
-#[tactic(auto, unfolding(crate::specs::Reader::number))]
+#[tactic(auto, unfolding(crate::specs::FirstReader::number))]
 pub fn number(text: &mut Cursor<'_>) -> Result<u32, Refusal>
     ensures { Gives (reader.number text.old) result text.new }
 {
     let number = text.decimal()?;
-    if 1 <= number && number <= LAST_NUMBER {
+    if 1 <= number && number <= LAST_FUNCTION_NUMBER {
         Ok(number)
     } else {
         Err(Refusal::NotOfForm)

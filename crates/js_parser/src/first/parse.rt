@@ -1,66 +1,56 @@
-ghost use Rattle.std.specs.Prelude.{◌≡◌, ℕ, IfOk, IfSome, Some, All, List};
+ghost use Rattle.std.specs.Prelude.{◌≡◌, ℕ, IfOk, Some, All, List};
 ghost use Rattle.std.specs.Option.{option_map};
 ghost use Rattle.js_tree.specs.Plain as plain;
 ghost use Rattle.js_tree.specs.Tree as trees;
 ghost use Rattle.js_parser.specs.declared.first.FirstScript as script;
 ghost use Rattle.js_parser.specs.declared.first.FirstEntry as entry;
-ghost use Rattle.js_parser.specs.First.{IsItem, IsEntry, script_text, cluster_text, IsTextOf};
-ghost use Rattle.js_parser.specs.Reader.{read_script, read_cluster};
+ghost use Rattle.js_parser.specs.First.{IsItem, IsEntry, script_text, cluster_text};
+ghost use Rattle.js_parser.specs.First.{IsScriptOf, IsClusterOf, IsTextOf};
+ghost use Rattle.text_reader.specs.Gives.{IfRead, IsRead};
+ghost use Rattle.js_parser.specs.FirstReader.{read_script, read_cluster};
 
 use crate::first::{FirstEntries, FirstScript, read, tree};
 use js_tree::Script;
 use std::alloc::{AllocError, Global};
-use text_reader::{Cursor, Refusal};
+use text_reader::{Cursor, or_none};
 
-#[tactic(auto, unfolding(crate::specs::Reader::read_script))]
+#[tactic(auto, unfolding(crate::specs::FirstReader::read_script))]
 fn script_of(alloc: Global, text: &[u8]) -> Result<Option<FirstScript>, AllocError>
     ensures { IfOk result (λ found. found ≡ read_script text.now) }
 {
-    let mut left = Cursor::new(text);
-    match read::script(alloc, &mut left) {
-        Ok(script) => Ok(Some(script)),
-        Err(Refusal::NotOfForm) => Ok(None),
-        Err(Refusal::OutOfMemory) => Err(AllocError),
-    }
+    or_none(read::script(alloc, &mut Cursor::new(text)))
 }
 
-#[tactic(auto, unfolding(crate::specs::Reader::read_cluster))]
+#[tactic(auto, unfolding(crate::specs::FirstReader::read_cluster))]
 fn entries_of(alloc: Global, text: &[u8]) -> Result<Option<FirstEntries>, AllocError>
     ensures { IfOk result (λ found. found ≡ read_cluster text.now) }
 {
-    let mut left = Cursor::new(text);
-    match read::entries(alloc, &mut left) {
-        Ok(entries) => Ok(Some(entries)),
-        Err(Refusal::NotOfForm) => Ok(None),
-        Err(Refusal::OutOfMemory) => Err(AllocError),
-    }
+    or_none(read::entries(alloc, &mut Cursor::new(text)))
 }
 
-/// The script of the first grammar that the bytes are the text of, and None where they are that of none.
+/// The script of the first grammar that the bytes are the text of, and None where they are that of
+/// none.
 pub fn read_first_script(alloc: Global, text: &[u8]) -> Result<Option<FirstScript>, AllocError>
     ensures value { IfOk result (λ found. found ≡ read_script text.now) }
-    ensures sound { IfOk result
-        (λ found. IfSome found (λ s. All IsItem s.items × (script_text s ≡ text.now))) }
-    ensures complete { (s : script.FirstScript) → All IsItem s.items → script_text s ≡ text.now
-        → IfOk result (λ found. found ≡ Some s) }
+    ensures sound { IfRead result (IsScriptOf text.now) }
+    ensures complete { (s : script.FirstScript) → IsScriptOf text.now s → IsRead result s }
 {
     script_of(alloc, text)
 }
 
-/// The entries of the cluster file that the bytes are, and None where they are no cluster file of the first grammar.
+/// The entries of the cluster file that the bytes are, and None where they are no cluster file of
+/// the first grammar.
 pub fn read_first_cluster(alloc: Global, text: &[u8]) -> Result<Option<FirstEntries>, AllocError>
     ensures value { IfOk result (λ found. found ≡ read_cluster text.now) }
-    ensures sound { IfOk result
-        (λ found. IfSome found (λ es. All IsEntry es × (cluster_text es ≡ text.now))) }
-    ensures complete { (es : List entry.FirstEntry) → All IsEntry es → cluster_text es ≡ text.now
-        → IfOk result (λ found. found ≡ Some es) }
+    ensures sound { IfRead result (IsClusterOf text.now) }
+    ensures complete { (es : List entry.FirstEntry) → IsClusterOf text.now es → IsRead result es }
 {
     entries_of(alloc, text)
 }
 
 /// The tree that the text is of by the first grammar, and None where it is of none.
 pub fn parse_first(alloc: Global, text: &str) -> Result<Option<Script>, AllocError>
-    ensures found { IfOk result (λ found. IfSome found (λ tree. IsTextOf (plain.script tree) text.now)) }
+    ensures found { IfRead result (λ tree. IsTextOf (plain.script tree) text.now) }
     ensures exact { (t : trees.Script) → IsTextOf t text.now
         → IfOk result (λ found. option_map plain.script found ≡ Some t) }
 {
@@ -70,16 +60,20 @@ pub fn parse_first(alloc: Global, text: &str) -> Result<Option<Script>, AllocErr
     }
 }
 
-/// Each script of the first grammar is read from its text, and what is read is a script with this text.
+/// Each script of the first grammar is read from its text, and what is read is a script with this
+/// text.
 pub fn scripts_read_back()
-    ensures read { (s : script.FirstScript) → All IsItem s.items → read_script (script_text s) ≡ Some s }
+    ensures read { (s : script.FirstScript) → All IsItem s.items
+        → read_script (script_text s) ≡ Some s }
     ensures written { (bytes : List ℕ) → (s : script.FirstScript) → read_script bytes ≡ Some s
-        → All IsItem s.items × (script_text s ≡ bytes) }
+        → IsScriptOf bytes s }
 {}
 
-/// Each cluster file of the first grammar is read from its text, and what is read is a cluster file with this text.
+/// Each cluster file of the first grammar is read from its text, and what is read is a cluster file
+/// with this text.
 pub fn clusters_read_back()
-    ensures read { (es : List entry.FirstEntry) → All IsEntry es → read_cluster (cluster_text es) ≡ Some es }
+    ensures read { (es : List entry.FirstEntry) → All IsEntry es
+        → read_cluster (cluster_text es) ≡ Some es }
     ensures written { (bytes : List ℕ) → (es : List entry.FirstEntry) → read_cluster bytes ≡ Some es
-        → All IsEntry es × (cluster_text es ≡ bytes) }
+        → IsClusterOf bytes es }
 {}

@@ -1,5 +1,4 @@
-ghost use Rattle.std.specs.Prelude.{◌≡◌};
-ghost use Rattle.js_parser.specs.Reader as reader;
+ghost use Rattle.js_parser.specs.FirstReader as reader;
 ghost use Rattle.text_reader.specs.Gives.{Gives};
 
 use crate::first::bytes::{characters, letter, number};
@@ -9,9 +8,9 @@ use crate::first::{
 };
 use sqlite_items::Items;
 use std::alloc::Global;
-use text_reader::{Cursor, Refusal};
+use text_reader::{Cursor, ListReader, Refusal};
 
-#[tactic(auto, unfolding(crate::specs::Reader::statement))]
+#[tactic(auto, unfolding(crate::specs::FirstReader::statement))]
 fn statement(alloc: Global, text: &mut Cursor<'_>) -> Result<FirstStatement, Refusal>
     ensures { Gives (reader.statement text.old) result text.new }
 {
@@ -25,24 +24,34 @@ fn statement(alloc: Global, text: &mut Cursor<'_>) -> Result<FirstStatement, Ref
     Ok(FirstStatement::Call(name))
 }
 
+#[derive(Drop)]
+struct NextStatement {
+    alloc: Global,
+}
+
+#[tactic(auto, unfolding(text_reader::specs::Reader::up_to))]
+impl ListReader<FirstStatement> for NextStatement {
+    ghost next_item = { λ _. reader.next_statement };
+
+    fn next_item(&self, text: &mut Cursor<'_>) -> Result<Option<FirstStatement>, Refusal> {
+        if text.eat(b"}") {
+            return Ok(None);
+        }
+        let statement = statement(self.alloc, text)?;
+        Ok(Some(statement))
+    }
+}
+
 /// Statements, and the `}` after them.
-#[tactic(auto, unfolding(crate::specs::Reader::statements, crate::specs::Reader::many))]
+#[tactic(auto, unfolding(crate::specs::FirstReader::statements))]
 fn statements(alloc: Global, text: &mut Cursor<'_>) -> Result<FirstStatements, Refusal>
     ensures { Gives (reader.statements text.old) result text.new }
 {
-    let turns = text.turns();
-    let mut statements = Items::new(alloc);
-    for _turn in 0..turns {
-        if text.eat(b"}") {
-            return Ok(statements);
-        }
-        statements.push(statement(alloc, text)?)?;
-    }
-    Err(Refusal::NotOfForm)
+    text.list(Items::new(alloc), &NextStatement { alloc })
 }
 
 /// A body, and the `}` after it.
-#[tactic(auto, unfolding(crate::specs::Reader::body))]
+#[tactic(auto, unfolding(crate::specs::FirstReader::body))]
 fn body(alloc: Global, text: &mut Cursor<'_>) -> Result<FirstBody, Refusal>
     ensures { Gives (reader.body text.old) result text.new }
 {
@@ -55,7 +64,7 @@ fn body(alloc: Global, text: &mut Cursor<'_>) -> Result<FirstBody, Refusal>
     Ok(FirstBody::Statements(plain))
 }
 
-#[tactic(auto, unfolding(crate::specs::Reader::function))]
+#[tactic(auto, unfolding(crate::specs::FirstReader::function))]
 fn function(alloc: Global, text: &mut Cursor<'_>) -> Result<FirstFunction, Refusal>
     ensures { Gives (reader.function text.old) result text.new }
 {
@@ -65,7 +74,7 @@ fn function(alloc: Global, text: &mut Cursor<'_>) -> Result<FirstFunction, Refus
     Ok(FirstFunction { name, body })
 }
 
-#[tactic(auto, unfolding(crate::specs::Reader::item))]
+#[tactic(auto, unfolding(crate::specs::FirstReader::item))]
 fn item(alloc: Global, text: &mut Cursor<'_>) -> Result<FirstItem, Refusal>
     ensures { Gives (reader.item text.old) result text.new }
 {
@@ -77,23 +86,33 @@ fn item(alloc: Global, text: &mut Cursor<'_>) -> Result<FirstItem, Refusal>
     Ok(FirstItem::Statement(statement))
 }
 
+#[derive(Drop)]
+struct NextItem {
+    alloc: Global,
+}
+
+#[tactic(auto, unfolding(text_reader::specs::Reader::up_to))]
+impl ListReader<FirstItem> for NextItem {
+    ghost next_item = { λ _. reader.next_item };
+
+    fn next_item(&self, text: &mut Cursor<'_>) -> Result<Option<FirstItem>, Refusal> {
+        if text.eat(b"\n") {
+            return Ok(None);
+        }
+        let item = item(self.alloc, text)?;
+        Ok(Some(item))
+    }
+}
+
 /// Items, and the line feed after them.
-#[tactic(auto, unfolding(crate::specs::Reader::items, crate::specs::Reader::many))]
+#[tactic(auto, unfolding(crate::specs::FirstReader::items))]
 fn items(alloc: Global, text: &mut Cursor<'_>) -> Result<FirstItems, Refusal>
     ensures { Gives (reader.items text.old) result text.new }
 {
-    let turns = text.turns();
-    let mut items = Items::new(alloc);
-    for _turn in 0..turns {
-        if text.eat(b"\n") {
-            return Ok(items);
-        }
-        items.push(item(alloc, text)?)?;
-    }
-    Err(Refusal::NotOfForm)
+    text.list(Items::new(alloc), &NextItem { alloc })
 }
 
-#[tactic(auto, unfolding(crate::specs::Reader::script))]
+#[tactic(auto, unfolding(crate::specs::FirstReader::script))]
 pub fn script(alloc: Global, text: &mut Cursor<'_>) -> Result<FirstScript, Refusal>
     ensures { Gives (reader.script text.old) result text.new }
 {
@@ -105,7 +124,7 @@ pub fn script(alloc: Global, text: &mut Cursor<'_>) -> Result<FirstScript, Refus
     }
 }
 
-#[tactic(auto, unfolding(crate::specs::Reader::entry))]
+#[tactic(auto, unfolding(crate::specs::FirstReader::entry))]
 fn entry(alloc: Global, text: &mut Cursor<'_>) -> Result<FirstEntry, Refusal>
     ensures { Gives (reader.entry text.old) result text.new }
 {
@@ -116,18 +135,28 @@ fn entry(alloc: Global, text: &mut Cursor<'_>) -> Result<FirstEntry, Refusal>
     Ok(FirstEntry { number, body })
 }
 
+#[derive(Drop)]
+struct NextEntry {
+    alloc: Global,
+}
+
+#[tactic(auto, unfolding(text_reader::specs::Reader::up_to))]
+impl ListReader<FirstEntry> for NextEntry {
+    ghost next_item = { λ _. reader.next_entry };
+
+    fn next_item(&self, text: &mut Cursor<'_>) -> Result<Option<FirstEntry>, Refusal> {
+        if text.is_at_end() {
+            return Ok(None);
+        }
+        let entry = entry(self.alloc, text)?;
+        Ok(Some(entry))
+    }
+}
+
 /// Entries, up to the end of the text.
-#[tactic(auto, unfolding(crate::specs::Reader::entries, crate::specs::Reader::many))]
+#[tactic(auto, unfolding(crate::specs::FirstReader::entries))]
 pub fn entries(alloc: Global, text: &mut Cursor<'_>) -> Result<FirstEntries, Refusal>
     ensures { Gives (reader.entries text.old) result text.new }
 {
-    let turns = text.turns();
-    let mut entries = Items::new(alloc);
-    for _turn in 0..turns {
-        if text.is_at_end() {
-            return Ok(entries);
-        }
-        entries.push(entry(alloc, text)?)?;
-    }
-    Err(Refusal::NotOfForm)
+    text.list(Items::new(alloc), &NextEntry { alloc })
 }

@@ -4,7 +4,8 @@ use std::alloc::{AllocError, Global};
 use std::test::Fail;
 
 const SCRIPT: &str =
-    "function f(){host.out(\"one\");}function g(){return eval($dl_get(2)).apply(this,arguments);}f();g();host.out(\"three\");\n";
+    "function f(){host.out(\"one\");}function g(){return eval($dl_get(2)).apply(this,arguments);}\
+    f();g();host.out(\"three\");\n";
 
 fn late(e: &Expr) -> Option<u32> {
     match e {

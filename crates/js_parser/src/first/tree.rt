@@ -1,6 +1,5 @@
-ghost use Rattle.std.specs.Prelude.{◌≡◌, [], ◌∷◌, IfOk, map};
+ghost use Rattle.std.specs.Prelude.{◌≡◌, [], ◌∷◌, IfOk};
 ghost use Rattle.js_tree.specs.Plain as plain;
-ghost use Rattle.js_tree.specs.Tree as trees;
 ghost use Rattle.js_parser.specs.First as first;
 
 use crate::first::{FirstBody, FirstFunction, FirstItem, FirstScript, FirstStatement};
@@ -29,7 +28,7 @@ fn letter_name(alloc: Global, letter: u8) -> Result<Units, AllocError>
 
 /// `host.out`
 fn host_out(alloc: Global) -> Result<Expr, AllocError>
-    ensures { IfOk result (λ e. plain.expr e ≡ trees.Dot (trees.Ident first.host_name) first.out_name) }
+    ensures { IfOk result (λ e. plain.expr e ≡ first.host_out) }
 {
     let host = Boxed::new(alloc, Expr::Name(units(alloc, b"host")?))?;
     Ok(Expr::Dot(host, units(alloc, b"out")?))

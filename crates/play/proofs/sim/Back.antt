@@ -13,7 +13,7 @@ use Rattle.js_parser.specs.declared.first.FirstItem.TheVariants as item
 use Rattle.play.specs.Site.{numbered, numbers_after, site_tree}
 use Rattle.play.specs.PutBack.{entry_body, with_body, back_func, back_stmt, and_rest, back}
 use Rattle.play.specs.Laws.{IsLate}
-use Rattle.play.proofs.Tables.{none_some, some_one}
+use Rattle.play.proofs.TableLemmas.{none_some, some_one}
 use Rattle.play.proofs.sim.Trees.{ident, str, call_name, call_dot, no_exprs, more_exprs, OfStmt, do_expr, OfStmts, no_stmts, more_stmts, more_declared, OfFunc, plain, stub}
 
 -- what was mapped

@@ -11,7 +11,7 @@ use Rattle.play.specs.declared.manifest.ClusterLine.{ClusterLine}
 use Rattle.play.specs.declared.manifest.Manifest.{Manifest}
 use Rattle.play.specs.Site.{ClusterFile, Absent, Refused, Accepted, cluster_file, line_of, late_function, entry_among, entry_in, entry_by, entries}
 use Rattle.play.specs.Laws.{IsLate}
-use Rattle.play.proofs.Tables.{none_some, some_one}
+use Rattle.play.proofs.TableLemmas.{none_some, some_one}
 
 abbrev LateOf : ℕ → Func → Type 0
 LateOf k f = (body : List FirstStatement) × (f ≡ Code k None [] (statements_tree body) Late)

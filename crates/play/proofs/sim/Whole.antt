@@ -7,7 +7,7 @@ use Rattle.play.specs.Run.{Mark, Called, Uncaught, Idle, Entered, Needed, Trace}
 use Rattle.play.specs.Page.{start, page, written, no_entries, original}
 use Rattle.play.specs.Laws
 use Rattle.play.specs.Laws.{IsCut, cut, same_end, same_stuck, said, with_mark, seen, with_time, times, Ended, RanOut, ending, IsPrefix, NeedsFollow, Joined}
-use Rattle.play.proofs.Tables.{none_some, some_one}
+use Rattle.play.proofs.TableLemmas.{none_some, some_one}
 use Rattle.play.proofs.sim.Trees.{OfStmts, a_script}
 use Rattle.play.proofs.sim.Values.{global, global_scope, no_funcs}
 use Rattle.play.proofs.sim.Relation.{OfProgram, begin, bottom, OfTrace, of_called, of_uncaught, of_idle, of_entered, of_needed, of_end, of_out}

@@ -2,25 +2,23 @@ ghost use Rattle.std.specs.Prelude.{◌≡◌, ◌++◌, All, IfOk};
 ghost use Rattle.std.specs.List.{flat_map, list_all};
 ghost use Rattle.js_parser.specs.First.{IsFunctionNumber};
 ghost use Rattle.play.specs.Manifest.{all_numbers, cluster_numbers};
-ghost use Rattle.js_parser.specs.Reader.{is_function_number};
+ghost use Rattle.js_tree.specs.Numbering.{is_function_number};
 ghost use Rattle.play.specs.ManifestReader as reader;
 
 use crate::manifest::{ClusterLine, Manifest};
+use js_tree::LAST_FUNCTION_NUMBER;
 use std::alloc::{AllocError, Global};
 
 /// The greatest length of a script's file, in bytes.
-const LAST_SCRIPT_BYTES: u32 = 65535;
+const MOST_SCRIPT_BYTES: u32 = 65535;
 
 /// The greatest length of a cluster's file, in bytes.
-const LAST_CLUSTER_BYTES: u32 = 1 << 31;
-
-/// The greatest number of a function.
-const LAST_NUMBER: u32 = 65535;
+const MOST_CLUSTER_BYTES: u32 = 1 << 31;
 
 fn is_function_number(number: u32) -> bool
     ensures { result ≡ is_function_number number }
 {
-    1 <= number && number <= LAST_NUMBER
+    1 <= number && number <= LAST_FUNCTION_NUMBER
 }
 
 fn are_function_numbers(numbers: &[u32]) -> bool
@@ -61,7 +59,7 @@ fn is_cluster_line(line: &ClusterLine) -> bool
     ensures { result ≡ reader.is_cluster_line line.now }
 {
     let entries = line.entries.as_slice();
-    line.bytes <= LAST_CLUSTER_BYTES
+    line.bytes <= MOST_CLUSTER_BYTES
         && !entries.is_empty()
         && rises(entries)
         && are_function_numbers(entries)
@@ -99,7 +97,7 @@ fn has_lines_of_form(manifest: &Manifest) -> bool
     ensures { result ≡ reader.has_lines_of_form manifest.now }
 {
     let clusters = manifest.clusters.as_slice();
-    manifest.script_bytes <= LAST_SCRIPT_BYTES
+    manifest.script_bytes <= MOST_SCRIPT_BYTES
         && are_function_numbers(manifest.plain.as_slice())
         && are_cluster_lines(clusters)
         && clusters_rise(clusters)

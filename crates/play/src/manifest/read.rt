@@ -5,21 +5,22 @@ ghost use Rattle.text_reader.specs.Gives.{Gives};
 use crate::manifest::{ClusterLine, ClusterLines, Manifest, Numbers};
 use sqlite_items::Items;
 use std::alloc::Global;
-use text_reader::{Cursor, Refusal};
+use text_reader::{Cursor, ListReader, Refusal};
 
-/// The numbers that follow behind commas.
-#[tactic(auto, unfolding(crate::specs::ManifestReader::numbers_after, crate::specs::ManifestReader::each))]
-fn numbers_after(mut numbers: Numbers, text: &mut Cursor<'_>) -> Result<Numbers, Refusal>
-    ensures { Gives (reader.numbers_after numbers text.old) result text.new }
-{
-    let turns = text.turns();
-    for _turn in 0..turns {
+#[derive(Drop)]
+struct NextNumber;
+
+#[tactic(auto, unfolding(text_reader::specs::Reader::behind))]
+impl ListReader<u32> for NextNumber {
+    ghost next_item = { λ _. reader.next_number };
+
+    fn next_item(&self, text: &mut Cursor<'_>) -> Result<Option<u32>, Refusal> {
         if !text.eat(b",") {
-            return Ok(numbers);
+            return Ok(None);
         }
-        numbers.push(text.decimal()?)?;
+        let number = text.decimal()?;
+        Ok(Some(number))
     }
-    Err(Refusal::NotOfForm)
 }
 
 /// Numbers joined by commas, or `-`.
@@ -32,7 +33,7 @@ fn numbers(alloc: Global, text: &mut Cursor<'_>) -> Result<Numbers, Refusal>
         return Ok(numbers);
     }
     numbers.push(text.decimal()?)?;
-    numbers_after(numbers, text)
+    text.list(numbers, &NextNumber)
 }
 
 /// An entry's line, behind its first word.
@@ -45,19 +46,28 @@ fn entry(text: &mut Cursor<'_>) -> Result<u32, Refusal>
     Ok(number)
 }
 
-#[tactic(auto, unfolding(crate::specs::ManifestReader::entries, crate::specs::ManifestReader::each))]
+#[derive(Drop)]
+struct NextEntry;
+
+#[tactic(auto, unfolding(text_reader::specs::Reader::behind))]
+impl ListReader<u32> for NextEntry {
+    ghost next_item = { λ _. reader.next_entry };
+
+    fn next_item(&self, text: &mut Cursor<'_>) -> Result<Option<u32>, Refusal> {
+        if !text.eat(b"entry ") {
+            return Ok(None);
+        }
+        let number = entry(text)?;
+        Ok(Some(number))
+    }
+}
+
+/// The lines of entries, as many as come.
+#[tactic(auto, unfolding(crate::specs::ManifestReader::entries))]
 fn entries(alloc: Global, text: &mut Cursor<'_>) -> Result<Numbers, Refusal>
     ensures { Gives (reader.entries text.old) result text.new }
 {
-    let turns = text.turns();
-    let mut entries = Items::new(alloc);
-    for _turn in 0..turns {
-        if !text.eat(b"entry ") {
-            return Ok(entries);
-        }
-        entries.push(entry(text)?)?;
-    }
-    Err(Refusal::NotOfForm)
+    text.list(Items::new(alloc), &NextEntry)
 }
 
 /// A cluster's lines, behind the first word.
@@ -77,19 +87,30 @@ fn cluster(alloc: Global, text: &mut Cursor<'_>) -> Result<ClusterLine, Refusal>
     })
 }
 
-#[tactic(auto, unfolding(crate::specs::ManifestReader::clusters, crate::specs::ManifestReader::each))]
+#[derive(Drop)]
+struct NextCluster {
+    alloc: Global,
+}
+
+#[tactic(auto, unfolding(text_reader::specs::Reader::behind))]
+impl ListReader<ClusterLine> for NextCluster {
+    ghost next_item = { λ _. reader.next_cluster };
+
+    fn next_item(&self, text: &mut Cursor<'_>) -> Result<Option<ClusterLine>, Refusal> {
+        if !text.eat(b"cluster ") {
+            return Ok(None);
+        }
+        let line = cluster(self.alloc, text)?;
+        Ok(Some(line))
+    }
+}
+
+/// The lines of clusters, as many as come.
+#[tactic(auto, unfolding(crate::specs::ManifestReader::clusters))]
 fn clusters(alloc: Global, text: &mut Cursor<'_>) -> Result<ClusterLines, Refusal>
     ensures { Gives (reader.clusters text.old) result text.new }
 {
-    let turns = text.turns();
-    let mut clusters = Items::new(alloc);
-    for _turn in 0..turns {
-        if !text.eat(b"cluster ") {
-            return Ok(clusters);
-        }
-        clusters.push(cluster(alloc, text)?)?;
-    }
-    Err(Refusal::NotOfForm)
+    text.list(Items::new(alloc), &NextCluster { alloc })
 }
 
 /// What stands in a manifest's text, of its form or not.

@@ -1,4 +1,4 @@
-use Rattle.std.proofs.Common.{◌<◌, length, arith}
+use Rattle.std.proofs.Common.{◌<◌, ◌∙◌, length, arith}
 use Rattle.std.proofs.lemmas.Grind.{common_steps}
 use Rattle.std.proofs.lemmas.Result.{err_from_is_err_and}
 use Rattle.dl_ports.proofs.Progress.{advanced, cut_short}
@@ -13,5 +13,8 @@ returns-in_err-count-clause-refused g c =
 pub loop-rest-preserved : goal.loop-rest-preserved
 loop-rest-preserved g c =
     let n = c.in_ok-count.count in
-    let rest = c.loop-rest.rest.now in
-    (advanced _ _ _ _ _ n _ c.loop-rest.invariant.0 c.in_ok-count.ensures.taken (grind (arith, common_steps)), omega arith, cc)
+    let rest = c.loop-rest.rest.now in (
+      advanced _ _ _ _ _ n _ c.loop-rest.invariant.0 c.in_ok-count.ensures.taken (grind (arith, common_steps)),
+      c.in_ok-count.ensures.cause.kept (λ h. cc) ∙ c.loop-rest.invariant.1,
+      cc,
+    )

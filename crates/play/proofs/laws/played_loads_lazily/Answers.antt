@@ -1,4 +1,4 @@
-use Rattle.play.proofs.Headlines.{played_loads}
+use Rattle.play.proofs.HeadlineLemmas.{played_loads}
 use Rattle.play.proofs.laws.played_loads_lazily.Goals as goal
 
 pub returns : goal.returns

@@ -1,4 +1,4 @@
-use Rattle.play.proofs.Headlines.{played_shows}
+use Rattle.play.proofs.HeadlineLemmas.{played_shows}
 use Rattle.play.proofs.laws.played_shows_original.Goals as goal
 
 pub returns : goal.returns

@@ -1,4 +1,4 @@
-use Rattle.play.proofs.Headlines.{originals_are_lazy}
+use Rattle.play.proofs.HeadlineLemmas.{originals_are_lazy}
 use Rattle.play.proofs.laws.waits_at_first_entries.Goals as goal
 
 pub returns : goal.returns

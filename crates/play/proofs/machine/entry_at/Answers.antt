@@ -1,5 +1,5 @@
 use Rattle.std.proofs.Common.{Some, sym, ap, ◌∙◌}
-use Rattle.play.proofs.Tables.{entry_found}
+use Rattle.play.proofs.TableLemmas.{entry_found}
 use Rattle.play.proofs.machine.entry_at.Goals as goal
 
 pub returns-in-Some-Some : goal.returns-in-Some-Some

@@ -1,6 +1,6 @@
 use Rattle.std.proofs.Common.{Some, None, sym, ap, ◌∙◌}
 use Rattle.std.specs.Prelude.{slice_get}
-use Rattle.play.proofs.Tables.{named_found}
+use Rattle.play.proofs.TableLemmas.{named_found}
 use Rattle.play.proofs.machine.function_named.Goals as goal
 
 pub returns-in-Some-None : goal.returns-in-Some-None

@@ -4,10 +4,10 @@ use Rattle.dl_ports.specs.Files.{and_name}
 use Rattle.play.specs.declared.manifest.ClusterLine.{ClusterLine}
 use Rattle.play.specs.Site.{cluster_name}
 use Rattle.play.specs.Answers.{FetchFails, Fetches}
-use Rattle.play.specs.Machine.{arrived_report}
-use Rattle.play.proofs.Tables.{same_element, within_got}
-use Rattle.play.proofs.Loaded.{one_more}
-use Rattle.play.proofs.Loads.{memory_front, fails, loads}
+use Rattle.play.specs.Machine.{with_arrival}
+use Rattle.play.proofs.TableLemmas.{same_element, within_got}
+use Rattle.play.proofs.EntryLemmas.{one_more}
+use Rattle.play.proofs.LoadLemmas.{memory_front, fails, loads}
 use Rattle.play.proofs.play.load.Goals as goal
 
 pub arrive-requires : goal.arrive-requires
@@ -40,5 +40,5 @@ returns-clause-loads g c files told =
     let needs = c.requires.needs in
     let same = same_element c.args.table.now.manifest.clusters c.as_slice.result.now c.args.place needs.line c.index-as_slice-place.result (omega (arith, within_got c.args.table.now.manifest.clusters c.args.place needs.line needs.line_at, ap (λ (l : List ClusterLine). length l) c.as_slice.ensures)) c.as_slice.ensures c.index-as_slice-place.is needs.line_at in
     loads files c.args.folder.now c.args.table.now c.args.machine.now c.args.place c.requires.sound needs c.arrive.new.table c.arrive.new.machine c.in_ok-entries.entries (g.S.Store.asked c.args.store.now) (g.S.Store.asked c.fetch.new.store) c.in_ok-arrive.ensures.table
-    (c.in_ok-arrive.ensures.machine ∙ ap (λ (l : ClusterLine). record c.args.machine.now { report = arrived_report c.args.machine.now.report l.cluster }) (sym same))
+    (c.in_ok-arrive.ensures.machine ∙ ap (λ (l : ClusterLine). with_arrival c.args.machine.now l.cluster) (sym same))
     (subst (λ l. Fetches files c.args.folder.now l c.in_ok-entries.entries (g.S.Store.asked c.args.store.now) (g.S.Store.asked c.fetch.new.store)) (sym same) (c.in_ok-entries.ensures.fetched files told))

@@ -1,4 +1,4 @@
-use Rattle.play.proofs.Headlines.{folder_result, folder_result_loads}
+use Rattle.play.proofs.HeadlineLemmas.{folder_result, folder_result_loads}
 use Rattle.play.proofs.play.play_first.Goals as goal
 
 pub returns-clause-headline : goal.returns-clause-headline

@@ -5,8 +5,8 @@ use Rattle.play.specs.Site.{manifest_name}
 use Rattle.play.specs.ManifestReader.{read_manifest}
 use Rattle.play.specs.Played.{for_manifest, for_manifest_file}
 use Rattle.play.specs.Answers.{Meets, NeedFails}
-use Rattle.play.proofs.Loads.{front_one}
-use Rattle.play.proofs.Runs.{after_meets, need_meets}
+use Rattle.play.proofs.LoadLemmas.{front_one}
+use Rattle.play.proofs.AnswerLemmas.{after_meets, need_meets}
 use Rattle.play.proofs.play.play_folder.Goals as goal
 
 pub returns-in_err-bytes-clause-meets : goal.returns-in_err-bytes-clause-meets
@@ -48,4 +48,4 @@ returns-clause-meets g c files told =
     (for_manifest_file files c.args.folder.now c.args.steps (files (manifest_name c.args.folder.now)))
     (g.S.Store.asked c.play_script.new.store) c.play_script.result (found.1 ∙ ap (and_name (g.S.Store.asked c.args.store.now)) same)
     (subst (λ r. Meets r (g.S.Store.asked c.read_needed.new.store) (g.S.Store.asked c.play_script.new.store) c.play_script.result) (sym r)
-    (c.play_script.ensures.meets files (c.read_needed.ensures.same_files ∙ told)))
+    (c.play_script.ensures.meets files (c.read_needed.ensures.reads.same_files ∙ told)))

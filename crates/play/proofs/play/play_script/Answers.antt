@@ -4,8 +4,8 @@ use Rattle.dl_ports.specs.Files.{and_name}
 use Rattle.play.specs.Site.{script_name, read_script_file}
 use Rattle.play.specs.Played.{for_script, for_script_file}
 use Rattle.play.specs.Answers.{Meets, NeedFails}
-use Rattle.play.proofs.Loads.{front_one}
-use Rattle.play.proofs.Runs.{after_meets, need_meets}
+use Rattle.play.proofs.LoadLemmas.{front_one}
+use Rattle.play.proofs.AnswerLemmas.{after_meets, need_meets}
 use Rattle.play.proofs.play.play_script.Goals as goal
 
 pub returns-in_err-bytes-clause-meets : goal.returns-in_err-bytes-clause-meets
@@ -48,4 +48,4 @@ returns-in-Some-clause-meets g c files told =
     (for_script_file files c.args.folder.now c.args.steps c.args.manifest (files (script_name c.args.folder.now)))
     (g.S.Store.asked c.run_script.new.store) c.run_script.result (found.1 ∙ ap (and_name (g.S.Store.asked c.args.store.now)) same)
     (subst (λ r. Meets r (g.S.Store.asked c.read_needed.new.store) (g.S.Store.asked c.run_script.new.store) c.run_script.result) (sym r)
-    (c.run_script.ensures.meets files (c.read_needed.ensures.same_files ∙ told)))
+    (c.run_script.ensures.meets files (c.read_needed.ensures.reads.same_files ∙ told)))

@@ -2,8 +2,8 @@ use Rattle.std.proofs.Common.{Some, sym, ap, ◌∙◌, subst}
 use Rattle.std.proofs.lemmas.Result.{err_from_is_err_and}
 use Rattle.play.specs.Played.{for_script}
 use Rattle.play.specs.Answers.{Meets, site_left}
-use Rattle.play.proofs.Loads.{front_none}
-use Rattle.play.proofs.Started.{started, none_agree}
+use Rattle.play.proofs.LoadLemmas.{front_none}
+use Rattle.play.proofs.StartLemmas.{started, none_agree}
 use Rattle.play.proofs.play.run_script.Goals as goal
 
 pub returns-in_err-machine-clause-meets : goal.returns-in_err-machine-clause-meets

@@ -3,7 +3,7 @@ use Rattle.std.proofs.lemmas.Result.{err_from_is_err_and}
 use Rattle.play.specs.declared.outcome.End.TheVariants as end
 use Rattle.play.specs.Report.{ended_text, out_of_steps_text}
 use Rattle.play.specs.Answers.{site_left}
-use Rattle.play.proofs.Runs.{ahead_memory, ahead_refused, ahead_kept, ahead_loaded, ahead_ended}
+use Rattle.play.proofs.AnswerLemmas.{ahead_memory, ahead_refused, ahead_kept, ahead_loaded, ahead_ended}
 use Rattle.play.proofs.play.run_site.Goals as goal
 
 pub returns-in_err-run-clause-meets : goal.returns-in_err-run-clause-meets
@@ -34,12 +34,12 @@ returns-in_err-load-in-Needs-clause-meets g c files told agrees =
 pub clusters-preserved : goal.clusters-preserved
 clusters-preserved g c = record {
   sound = c.in_ok-load-in-Needs.ensures.more.sound;
-  files = c.load.ensures.same_files ∙ c.clusters.invariant.files;
+  files = c.load.ensures.reads.same_files ∙ c.clusters.invariant.files;
   ahead = λ files told agrees.
       let a = c.clusters.invariant.ahead files told agrees in
       let k = ahead_kept files c.args.folder.now (site_left files c.args.folder.now c.args.table c.args.machine) (g.S.Store.asked c.args.store.now) (g.S.Store.asked c.clusters.store) c.clusters.table c.clusters.machine a c.run.new.self (rw c.in-Needs.is at c.in_ok-run.ensures).0 in
       ahead_loaded files c.args.folder.now (site_left files c.args.folder.now c.args.table c.args.machine) (g.S.Store.asked c.args.store.now) (g.S.Store.asked c.clusters.store) c.clusters.table c.run.new.self k
       c.load.new.table c.load.new.machine (g.S.Store.asked c.load.new.store) (c.in_ok-load-in-Needs.ensures.loads files (c.clusters.invariant.files ∙ told));
-  later = let a = c.clusters.invariant.later in let b = c.load.ensures.later in omega (arith, a, b);
-  write_faults = c.load.ensures.same_write_faults ∙ c.clusters.invariant.write_faults;
+  faults = grind (arith, c.load.ensures.reads.faults.kept, c.clusters.invariant.faults);
+  write_faults = c.load.ensures.reads.same_write_faults ∙ c.clusters.invariant.write_faults;
 }

@@ -9,7 +9,7 @@ invariant-clusters g l = record {
   sound : IsSound l.table;
   files : g.S.Store.files l.store ≡ g.S.Store.files l.initial.store;
   ahead : (files : Files) → g.S.Store.files l.initial.store ≡ Some files → SiteAgrees files l.folder l.initial.table → Ahead files l.folder (site_left files l.folder l.initial.table l.initial.machine) (g.S.Store.asked l.initial.store) (g.S.Store.asked l.store) l.table l.machine;
-  later : g.S.Port.faults l.initial.store ≤ g.S.Port.faults l.store;
+  faults : g.S.Port.faults l.store ≡ g.S.Port.faults l.initial.store;
   write_faults : g.S.Store.write_faults l.store ≡ g.S.Store.write_faults l.initial.store;
 }
 

@@ -1,6 +1,6 @@
 use Rattle.std.proofs.Common.{ℕ, List, length, refl, sym, ap, ◌∙◌, arith}
 use Rattle.std.specs.Prelude.{slice_get}
-use Rattle.play.proofs.Lists.{got_index}
+use Rattle.play.proofs.ListLemmas.{got_index}
 use Rattle.play.proofs.Distinct.{not_listed}
 use Rattle.play.proofs.site.function_of.Goals as goal
 

@@ -2,8 +2,8 @@ use Rattle.std.proofs.Common.{◌≡◌, ◌+◌, ◌++◌, ◌∷◌, [], lengt
 use Rattle.play.specs.Machine.{func_of, BodiesAre}
 use Rattle.play.specs.Program.{declared}
 use Rattle.play.specs.Site.{site_tree, plain_count}
-use Rattle.play.proofs.Lists.{got_index}
-use Rattle.play.proofs.Functions.{more_plain, more_stub, bodies_more, count_plain, count_stub, listed_rest, past_statement, count_statement, listed_statement}
+use Rattle.play.proofs.ListLemmas.{got_index}
+use Rattle.play.proofs.FunctionLemmas.{more_plain, more_stub, bodies_more, count_plain, count_stub, listed_rest, past_statement, count_statement, listed_statement}
 use Rattle.play.proofs.site.functions_of.Goals as goal
 use Rattle.play.proofs.site.functions_of.Goals.{in-Function+in_ok-function_of-in-Function+in_ok-push-in-Function+in-Statements, in-Function+in_ok-function_of-in-Function+in_ok-push-in-Function+in-Stub, in-Statement}
 

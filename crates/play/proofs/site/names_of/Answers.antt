@@ -1,8 +1,8 @@
 use Rattle.std.proofs.Common.{Some, take, ◌+◌, sym, subst, arith}
 use Rattle.std.specs.Prelude.{slice_set}
 use Rattle.play.specs.Machine.{NamesAre}
-use Rattle.play.proofs.Lists.{got_index}
-use Rattle.play.proofs.Names.{names_more}
+use Rattle.play.proofs.ListLemmas.{got_index}
+use Rattle.play.proofs.LetterLemmas.{names_more}
 use Rattle.play.proofs.site.names_of.Goals as goal
 
 pub loop-place-preserved : goal.loop-place-preserved

@@ -1,5 +1,5 @@
 use Rattle.std.proofs.Common.{arith}
-use Rattle.play.proofs.Lists.{got_index, any_at}
+use Rattle.play.proofs.ListLemmas.{got_index, any_at}
 use Rattle.play.proofs.site.place_in.Goals as goal
 
 pub returns-then-number-other : goal.returns-then-number-other

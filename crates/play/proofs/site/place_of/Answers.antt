@@ -1,7 +1,7 @@
 use Rattle.std.proofs.Common.{sym, ap, ◌∙◌, arith}
 use Rattle.std.specs.Prelude.{nat_eq, slice_get}
 use Rattle.std.specs.List.{list_any}
-use Rattle.play.proofs.Lists.{got_index, line_found}
+use Rattle.play.proofs.ListLemmas.{got_index, line_found}
 use Rattle.play.proofs.site.place_of.Goals as goal
 
 pub returns-in-Some : goal.returns-in-Some

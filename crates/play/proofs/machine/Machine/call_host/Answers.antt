@@ -1,6 +1,6 @@
 use Rattle.std.proofs.Common.{◌+◌, refl, ap, ◌∙◌}
 use Rattle.std.specs.Prelude.{slice_get}
-use Rattle.play.proofs.Turned.{keeps_out, out_runs_out}
+use Rattle.play.proofs.TurnLemmas.{keeps_out, out_runs_out}
 use Rattle.play.proofs.machine.Machine.call_host.Goals as goal
 
 pub returns-then-not-take-clause-turns : goal.returns-then-not-take-clause-turns

@@ -1,6 +1,6 @@
 use Rattle.std.proofs.Common.{◌+◌, [], ◌∷◌, ◌++◌, ap, ◌∙◌, arith}
 use Rattle.play.specs.declared.table.Frame.TheVariants as frame
-use Rattle.play.proofs.Turned.{call_runs_out, late_runs_out, keeps_late}
+use Rattle.play.proofs.TurnLemmas.{call_runs_out, late_runs_out, keeps_late}
 use Rattle.play.proofs.machine.Machine.call_late.Goals as goal
 
 pub returns-then-not-take-clause-turns : goal.returns-then-not-take-clause-turns

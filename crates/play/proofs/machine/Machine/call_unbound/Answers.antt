@@ -1,8 +1,6 @@
 use Rattle.std.proofs.Common.{◌+◌, ◌++◌, ap, sym, ◌∙◌, arith}
-use Rattle.play.specs.Loader.{IdleLine}
-use Rattle.play.specs.Report.{line_text}
-use Rattle.play.proofs.Texts.{uncaught_line}
-use Rattle.play.proofs.Turned.{name_runs_out, ends_uncaught}
+use Rattle.play.specs.Report.{IdleLine, line_text}
+use Rattle.play.proofs.TurnLemmas.{name_runs_out, ends_uncaught}
 use Rattle.play.proofs.machine.Machine.call_unbound.Goals as goal
 
 pub returns-then-not-take-clause-turns : goal.returns-then-not-take-clause-turns
@@ -17,4 +15,4 @@ returns-clause-turns c =
     ends_uncaught c.args.table.now c.args.self.now c.idle.new.self c.args.letter c.take.new.self.left c.requires.here c.requires.unbound
     c.if-not-take.ensures.0
     (omega (arith, c.if-not-take.ensures.1, steps))
-    (c.in_ok-idle.ensures.report ∙ ap (λ r. r ++ line_text IdleLine) (c.in_ok-extend.ensures.ok ∙ ap (λ l. c.args.self.now.report ++ l) (sym uncaught_line)))
+    (c.in_ok-idle.ensures.report ∙ ap (λ r. r ++ line_text IdleLine) c.in_ok-push_uncaught.ensures)

@@ -1,5 +1,5 @@
 use Rattle.std.proofs.Common.{◌-◌, refl, arith}
-use Rattle.play.proofs.Turned.{call_runs_out, keeps_same, needs_next}
+use Rattle.play.proofs.TurnLemmas.{call_runs_out, keeps_same, needs_next}
 use Rattle.play.proofs.machine.Machine.need.Goals as goal
 
 pub returns-then-self-lt-CALL_STEPS-clause-turns : goal.returns-then-self-lt-CALL_STEPS-clause-turns

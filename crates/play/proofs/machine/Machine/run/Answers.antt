@@ -1,6 +1,6 @@
 use Rattle.std.proofs.Common.{subst}
 use Rattle.play.specs.Machine.{Turns}
-use Rattle.play.proofs.Turned.{halts_then, turned_on}
+use Rattle.play.proofs.TurnLemmas.{halts_then, turned_on}
 use Rattle.play.proofs.machine.Machine.run.Goals as goal
 
 pub returns-in-Some : goal.returns-in-Some

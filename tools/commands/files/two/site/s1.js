@@ -1,0 +1,1 @@
+function c(){host.out("plain");}function a(){return eval($dl_get(2)).apply(this,arguments);}function b(){return eval($dl_get(3)).apply(this,arguments);}function d(){return eval($dl_get(4)).apply(this,arguments);}c();a();d();b();a();
