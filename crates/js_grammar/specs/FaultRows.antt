@@ -24,7 +24,13 @@ brackets_of text = most_open 0 (tokens text)
 -- ---- limits
 
 abbrev pub limits : ℕ → ℕ → ℕ → Limits
-limits depth nesting brackets = record { depth = depth; nesting = nesting; brackets = brackets; functions = 2 }
+limits depth nesting brackets = record {
+  depth = depth;
+  nesting = nesting;
+  brackets =
+      brackets;
+  functions = 2;
+}
 
 -- a script of depth 3, with two functions in one another and three brackets open at once
 abbrev pub text : List ℕ

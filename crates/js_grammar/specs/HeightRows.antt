@@ -1,5 +1,5 @@
--- How deep small trees are, and how many functions stand in one another in them: one of the parts of a node is a high tree, or a
--- function, and the others are not.
+-- How deep small trees are, and how many functions stand in one another in them: one of the parts
+-- of a node is a high tree, or a function, and the others are not.
 use Rattle.std.specs.Prelude.{ℕ, List, [], ◌∷◌, map, replicate}
 use Rattle.js_tree.specs.declared.tree.PrefixOp.TheVariants.{Not}
 use Rattle.js_tree.specs.Tree.{Expr, Num, Null, Prefix}
@@ -36,13 +36,15 @@ abbrev pub statements_by_first : List ℕ
 statements_by_first = 5 ∷ 4 ∷ 4 ∷ 4 ∷ 4 ∷ 5 ∷ 4 ∷ 4 ∷ 4 ∷ 5 ∷ 4 ∷ 4 ∷ 4 ∷ 4 ∷ 5 ∷ 4 ∷ 5 ∷ 5 ∷ 5 ∷ []
 
 abbrev pub statements_by_second : List ℕ
-statements_by_second = 5 ∷ 4 ∷ 2 ∷ 5 ∷ 5 ∷ 4 ∷ 5 ∷ 4 ∷ 4 ∷ 3 ∷ 4 ∷ 4 ∷ 2 ∷ 4 ∷ 3 ∷ 2 ∷ 5 ∷ 3 ∷ 5 ∷ []
+statements_by_second = 5 ∷ 4 ∷ 2 ∷ 5 ∷ 5 ∷ 4 ∷ 5 ∷ 4 ∷ 4 ∷ 3 ∷ 4 ∷ 4 ∷ 2 ∷ 4 ∷ 3 ∷ 2 ∷ 5 ∷ 3 ∷ 5
+    ∷ []
 
 abbrev pub statements_by_third : List ℕ
 statements_by_third = 3 ∷ 2 ∷ 2 ∷ 5 ∷ 3 ∷ 3 ∷ 3 ∷ 4 ∷ 4 ∷ 3 ∷ 5 ∷ 5 ∷ 2 ∷ 5 ∷ 3 ∷ 2 ∷ 5 ∷ 3 ∷ 3 ∷ []
 
 abbrev pub statements_by_fourth : List ℕ
-statements_by_fourth = 3 ∷ 2 ∷ 2 ∷ 3 ∷ 3 ∷ 3 ∷ 3 ∷ 4 ∷ 5 ∷ 3 ∷ 3 ∷ 3 ∷ 2 ∷ 5 ∷ 3 ∷ 2 ∷ 3 ∷ 3 ∷ 3 ∷ []
+statements_by_fourth = 3 ∷ 2 ∷ 2 ∷ 3 ∷ 3 ∷ 3 ∷ 3 ∷ 4 ∷ 5 ∷ 3 ∷ 3 ∷ 3 ∷ 2 ∷ 5 ∷ 3 ∷ 2 ∷ 3 ∷ 3 ∷ 3
+    ∷ []
 
 -- ---- functions in one another
 
