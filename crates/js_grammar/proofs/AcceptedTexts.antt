@@ -5,7 +5,6 @@ use Rattle.std.specs.Fmt.{digits}
 use Rattle.unicode_ident.proofs.Computing.{unicode_ident}
 use Rattle.js_lexer.specs.declared.mark.Mark.TheVariants as m
 use Rattle.js_lexer.specs.declared.word.Word.TheVariants as w
-use Rattle.js_lexer.specs.declared.token.TokenKind.TheVariants as k
 use Rattle.js_tree.specs.declared.tree.BinaryOp.TheVariants as b
 use Rattle.js_tree.specs.declared.tree.PrefixOp.TheVariants as p
 use Rattle.js_tree.specs.declared.tree.PostfixOp.TheVariants as q

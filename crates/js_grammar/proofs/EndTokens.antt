@@ -17,7 +17,7 @@ use Rattle.js_grammar.specs.declared.form.Form.{Form}
 use Rattle.js_grammar.specs.Symbols.{Symbol, Symbols, mark, name}
 use Rattle.js_grammar.specs.Operators.{Operator, LogicalOr, LogicalAnd, Operation, level, sign, prefix_sign, postfix_sign, assignment}
 use Rattle.js_grammar.specs.Ends.{ends_from, ends_changed, is_change}
-use Rattle.js_grammar.specs.Grammar.{Formals, Expression, NewCallee, Arguments, ArgumentList, FunctionRest, Statement, SourceElement}
+use Rattle.js_grammar.specs.Grammar.{Expression, NewCallee, Arguments, ArgumentList, FunctionRest}
 use Rattle.js_grammar.specs.Grammar as g
 use Rattle.js_grammar.proofs.Levels.{is_empty}
 

@@ -6,7 +6,7 @@ use Rattle.js_grammar.specs.declared.form.Form.{Form}
 use Rattle.js_grammar.specs.Symbols.{Symbol, Symbols}
 use Rattle.js_grammar.specs.Operators.{Operator, LogicalOr, LogicalAnd, Operation, joined, may_operate, is_target}
 use Rattle.js_grammar.specs.Contexts.{Context}
-use Rattle.js_grammar.specs.Grammar.{Formals, Expression, NewCallee, Arguments, ArgumentList, DeclaratorList, Declarator, Block, Statement, SourceElement}
+use Rattle.js_grammar.specs.Grammar.{Expression, NewCallee, ArgumentList, DeclaratorList, Statement, SourceElement}
 use Rattle.js_grammar.specs.Grammar as g
 
 -- an expression of a level is one of each lower level

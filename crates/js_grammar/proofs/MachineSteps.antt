@@ -1,5 +1,5 @@
 -- What the machine does where expressions, declarators and statements begin and end.
-use Rattle.std.proofs.Common.{if◌then◌else◌, ◌≡◌, ◌≢◌, ℕ, ◌<◌, Bool, true, false, not, ◌&&◌, ◌||◌, List, [], ◌∷◌, ◌++◌, Option, None, refl, ap, sym, ◌∙◌, subst, arith, lit<}
+use Rattle.std.proofs.Common.{◌≡◌, ◌≢◌, ℕ, ◌<◌, Bool, true, false, not, ◌&&◌, ◌||◌, List, [], ◌∷◌, ◌++◌, Option, None, refl, ap, sym, ◌∙◌, subst, arith, lit<}
 use Rattle.std.proofs.lemmas.List.{append_assoc}
 use Rattle.js_lexer.specs.Words.{is_spelled}
 use Rattle.js_lexer.specs.declared.mark.Mark.{Mark}
@@ -9,7 +9,7 @@ use Rattle.js_lexer.specs.declared.token.TokenKind.{TokenKind}
 use Rattle.js_lexer.specs.declared.token.TokenKind.TheVariants as k
 use Rattle.js_tree.specs.declared.tree.PostfixOp.{PostfixOp}
 use Rattle.js_tree.specs.declared.tree.PostfixOp.TheVariants as q
-use Rattle.js_tree.specs.Tree.{Name, Expr, Exprs, MaybeExpr, Elements, Pairs, Stmt, Stmts, VarItems, Cases, ForInit}
+use Rattle.js_tree.specs.Tree.{Name, Expr, Exprs, MaybeExpr, Elements, Stmt, Stmts, VarItems, Cases}
 use Rattle.js_tree.specs.Tree
 use Rattle.js_grammar.specs.declared.form.Form.{Form}
 use Rattle.js_grammar.specs.Symbols.{Symbol, Symbols, word, mark, first}
@@ -18,12 +18,12 @@ use Rattle.js_grammar.specs.Names.{is_eval, is_function_name, is_infinity, may_s
 use Rattle.js_grammar.specs.Contexts.{Context}
 use Rattle.js_grammar.specs.Ends.{Ends, EndsAtOnce, ends_changed, kind_reach, reach, bare_reach, list_reach, declarator_reach}
 use Rattle.js_grammar.specs.Ends as e
-use Rattle.js_grammar.specs.Grammar.{Formals, Expression, NewCallee, Arguments, ArgumentList, ElementList, PropertyList, FunctionRest, Declarator, DeclaratorList, OptionalExpression, ForFirst, Block, Statement, StatementList, CaseClauses, SourceElement, SourceElements, code}
+use Rattle.js_grammar.specs.Grammar.{Formals, Arguments, FunctionRest, DeclaratorList, Block, Statement, StatementList, CaseClauses, SourceElements, code}
 use Rattle.js_grammar.specs.Grammar as g
 use Rattle.js_grammar.proofs.Levels.{is_empty, more}
-use Rattle.js_grammar.proofs.EndTokens.{Starts, one, begins, begins_operand, operand-starts, callee-starts, expression-starts, argument-starts, operand-end, callee-end, last-of, ends-any, colon_first, no_label, expression-no-label}
+use Rattle.js_grammar.proofs.EndTokens.{Starts, one, begins, expression-starts, colon_first}
 use Rattle.js_grammar.proofs.EndTokens as start
-use Rattle.js_grammar.proofs.Machine.{State, done, stuck, comma, comma_tail, assign, choice, climb, tail, unary, postfix, operand, links, arguments, argument_list, elements, pairs, rest, formals, formal, declarator, declarators, optional, statement, list, source, clauses, To, step, Goes, here, then_on, onwards, stepped}
+use Rattle.js_grammar.proofs.Machine.{State, comma, assign, links, arguments, argument_list, rest, formals, formal, statement, list, source, clauses, To, step, Goes, here, then_on, stepped}
 use Rattle.js_grammar.proofs.Machine.{allowed}
 use Rattle.js_grammar.proofs.Machine as mc
 use Rattle.js_grammar.proofs.MachineLevels.{front, kind_reach_in, reach_in, reach_of}

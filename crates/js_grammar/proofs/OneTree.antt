@@ -1,5 +1,5 @@
 -- What has a tree by the grammar is read by the machine: the whole grammar.
-use Rattle.std.proofs.Common.{if◌then◌else◌, ◌≡◌, ℕ, ◌≤◌, ◌<◌, Bool, true, false, not, ◌&&◌, ◌||◌, List, [], ◌∷◌, ◌++◌, Some, None, refl, ap, sym, ◌∙◌, subst, arith, lit≤, lit<}
+use Rattle.std.proofs.Common.{◌≡◌, ℕ, ◌≤◌, ◌<◌, Bool, true, false, not, ◌||◌, List, [], ◌∷◌, ◌++◌, Some, None, refl, ap, sym, ◌∙◌, subst, arith, lit≤, lit<}
 use Rattle.std.proofs.lemmas.List.{append_assoc}
 use Rattle.js_lexer.specs.declared.mark.Mark.TheVariants as m
 use Rattle.js_lexer.specs.declared.token.TokenKind.TheVariants as k
@@ -12,10 +12,10 @@ use Rattle.js_grammar.specs.Operators.{joined, sign, level, prefix_sign, postfix
 use Rattle.js_grammar.specs.Contexts.{Context}
 use Rattle.js_grammar.specs.Contexts as context
 use Rattle.js_grammar.specs.Ends.{ends_changed, kind_reach}
-use Rattle.js_grammar.specs.Grammar.{Formals, Expression, NewCallee, Arguments, ArgumentList, ElementList, PropertyList, FunctionRest, Declarator, DeclaratorList, OptionalExpression, ForFirst, Block, Statement, StatementList, CaseClauses, SourceElement, SourceElements, code}
+use Rattle.js_grammar.specs.Grammar.{Expression, NewCallee, Arguments, ArgumentList, ElementList, PropertyList, FunctionRest, Declarator, DeclaratorList, OptionalExpression, ForFirst, Block, Statement, StatementList, CaseClauses, SourceElements, code}
 use Rattle.js_grammar.specs.Grammar as g
 use Rattle.js_grammar.proofs.Levels.{more, expression-tokens}
-use Rattle.js_grammar.proofs.EndTokens.{Starts, one, begins, begins_operand, operand-starts, callee-starts, expression-starts, argument-starts, operand-end, callee-end, last-of, ends-any, colon_first, no_label, expression-no-label}
+use Rattle.js_grammar.proofs.EndTokens.{one, operand-starts, expression-starts, argument-starts, operand-end, callee-end, last-of, no_label, expression-no-label}
 use Rattle.js_grammar.proofs.EndTokens as start
 use Rattle.js_grammar.proofs.Machine.{State, done, stuck, comma, comma_tail, assign, choice, climb, tail, unary, postfix, operand, links, arguments, argument_list, elements, pairs, rest, formals, declarator, declarators, optional, statement, list, source, clauses, To, step, Goes, here, then_on, onwards, stepped}
 use Rattle.js_grammar.proofs.Machine.{one_end, allowed}

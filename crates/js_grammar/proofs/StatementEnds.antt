@@ -11,9 +11,9 @@ use Rattle.js_grammar.specs.declared.form.Form.{Form}
 use Rattle.js_grammar.specs.Symbols.{Symbol, Symbols, mark}
 use Rattle.js_grammar.specs.Operators.{Operator, LogicalOr, LogicalAnd, Operation, joined, may_operate, is_in_operation}
 use Rattle.js_grammar.specs.Contexts.{Context}
-use Rattle.js_grammar.specs.Ends.{Ends, reach, kind_reach, unless, ends_changed}
+use Rattle.js_grammar.specs.Ends.{Ends, reach, kind_reach, ends_changed}
 use Rattle.js_grammar.specs.Ends as e
-use Rattle.js_grammar.specs.Grammar.{Expression, Block, Statement}
+use Rattle.js_grammar.specs.Grammar.{Expression, Statement}
 use Rattle.js_grammar.specs.Grammar as g
 use Rattle.js_grammar.specs.Laws.{ends_in_if, goes_on, ends_with_semicolon, begins_in_parentheses}
 

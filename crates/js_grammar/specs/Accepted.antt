@@ -54,15 +54,18 @@ pub record Keeps (limits : Limits) (tokens : Symbols) (tree : Script) : Type 0 w
 -- ---- accepted
 
 -- without the limits of depth, nesting and brackets, but for so many functions
-pub record IsUnlimited (form : Form) (functions : ℕ) (tokens : Symbols) (tree : Script) : Type 0 where
+pub record IsUnlimited (form : Form) (functions : ℕ) (tokens : Symbols)
+    (tree : Script) : Type 0 where
   pub derives : Derives form tokens tree
   pub few_functions : functions_in tokens ≤ functions
 
-pub record Accepted (form : Form) (limits : Limits) (tokens : Symbols) (tree : Script) : Type 0 where
+pub record Accepted (form : Form) (limits : Limits) (tokens : Symbols)
+    (tree : Script) : Type 0 where
   pub unlimited : IsUnlimited form limits.functions tokens tree
   pub keeps : Keeps limits tokens tree
 
--- The tokens are accepted without limits, and a limit breaks in their script, first in the statement or declaration that begins behind n tokens.
+-- The tokens are accepted without limits, and a limit breaks in their script, first in the
+-- statement or declaration that begins behind n tokens.
 pub record IsOverAt (form : Form) (limits : Limits) (tokens : Symbols) (n : ℕ) : Type 0 where
   pub before : Symbols
   pub element : Symbols
@@ -73,7 +76,8 @@ pub record IsOverAt (form : Form) (limits : Limits) (tokens : Symbols) (n : ℕ)
   pub other_trees : Stmts
   pub whole : tokens ≡ before ++ (element ++ (after ++ (end newline ∷ [])))
   pub stands : length before ≡ n
-  pub derives_before : SourceElements form context.script before (first (element ++ after) (end newline)) trees
+  pub derives_before : SourceElements form context.script before
+      (first (element ++ after) (end newline)) trees
   pub derives : SourceElement form context.script element (first after (end newline)) tree
   pub derives_after : SourceElements form context.script after (end newline) other_trees
   pub few_functions : functions_in tokens ≤ limits.functions

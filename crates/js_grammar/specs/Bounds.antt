@@ -13,7 +13,12 @@ written_functions = 196605
 
 -- the limits of a source script, where so many functions are left for it
 abbrev pub source_limits : ℕ → Limits
-source_limits functions = record { depth = 400; nesting = 64; brackets = 400; functions = functions }
+source_limits functions = record {
+  depth = 400;
+  nesting = 64;
+  brackets = 400;
+  functions = functions;
+}
 
 -- of the first script of a source, for which all are left
 abbrev pub in_source : Limits

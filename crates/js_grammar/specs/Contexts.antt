@@ -14,7 +14,14 @@ pub record Context : Type 0 where
   pub ahead : List Name
 
 abbrev pub outermost : Bool → Context
-outermost in_function = record { in_function = in_function; in_loop = false; in_switch = false; labels = []; loops = []; ahead = [] }
+outermost in_function = record {
+  in_function = in_function;
+  in_loop = false;
+  in_switch = false;
+  labels = [];
+  loops = [];
+  ahead = [];
+}
 
 -- of a script's statements
 abbrev pub script : Context

@@ -12,8 +12,8 @@ by_nodes = record { node = suc; function = as_before }
 abbrev pub by_functions : Growth
 by_functions = record { node = as_before; function = suc }
 
--- A statement of a script has depth 1, and a node directly inside another has one more. A script is as deep as its deepest node, and 0
--- where it has none.
+-- A statement of a script has depth 1, and a node directly inside another has one more. A script is
+-- as deep as its deepest node, and 0 where it has none.
 abbrev pub depth : Script → ℕ
 depth = stmts_height by_nodes
 

@@ -19,14 +19,16 @@ abbrev pub ends_from : Bool → Symbols → Bool
 ends_from b [] = b
 ends_from b (s ∷ ss) = ends_from (is_change s.kind) ss
 
--- The last token is `++` or `--`. Behind an expression it is then a postfix operator, since an operand follows a prefix operator.
+-- The last token is `++` or `--`. Behind an expression it is then a postfix operator, since an
+-- operand follows a prefix operator.
 abbrev pub ends_changed : Symbols → Bool
 ends_changed = ends_from false
 
 abbrev pub unless : Bool → ℕ → ℕ
 unless b l = if b then 0 else l
 
--- the level of the expression that a mark makes of what stands before it and what follows, and 0 if it makes none
+-- the level of the expression that a mark makes of what stands before it and what follows, and 0 if
+-- it makes none
 abbrev pub mark_reach : Bool → Bool → Mark → ℕ
 mark_reach changed newline m.Comma = 1
 mark_reach changed newline m.Assign = 2
@@ -80,7 +82,8 @@ kind_reach changed newline (k.Mark m) = mark_reach changed newline m
 kind_reach changed newline (k.Word w) = word_reach w
 kind_reach changed newline _ = 0
 
--- The highest level of an expression that the token goes on with, behind tokens that are one, and 0 if it goes on with none.
+-- The highest level of an expression that the token goes on with, behind tokens that are one, and 0
+-- if it goes on with none.
 abbrev pub reach : Symbols → Symbol → ℕ
 reach u next = kind_reach (ends_changed u) next.newline next.kind
 
@@ -98,17 +101,21 @@ declarator_reach u next (AnExpr x) = reach u next
 abbrev pub list_reach : Symbols → Symbol → VarItems → ℕ
 list_reach u next NoVarItems = 0
 list_reach u next (MoreVarItems name value NoVarItems) = declarator_reach u next value
-list_reach u next (MoreVarItems name value (MoreVarItems other_name other_value rest)) = list_reach u next (MoreVarItems other_name other_value rest)
+list_reach u next (MoreVarItems name value (MoreVarItems other_name other_value rest)) =
+    list_reach u next (MoreVarItems other_name other_value rest)
 
--- The end of a statement that the token `next` goes on with to a level, or fits nowhere behind where that is 0: it is `;`, or no token, where
--- the next is `}` or the end, or stands on a new line and fits nowhere.
+-- The end of a statement that the token `next` goes on with to a level, or fits nowhere behind
+-- where that is 0: it is `;`, or no token, where the next is `}` or the end, or stands on a new
+-- line and fits nowhere.
 pub data Ends (reached : ℕ) (next : Symbol) : Symbols → Type 0 where
   written : (b : Bool) → Ends reached next (mark m.Semicolon b ∷ [])
   at_brace : next.kind ≡ k.Mark m.CloseBrace → Ends reached next []
   at_end : next.kind ≡ k.End → Ends reached next []
-  at_line : next.newline ≡ true → reached ≡ 0 → next.kind ≢ k.Mark m.Semicolon → Ends reached next []
+  at_line : next.newline ≡ true → reached ≡ 0 → next.kind ≢ k.Mark m.Semicolon
+      → Ends reached next []
 
--- The end directly behind `continue`, `break` and `return`: a token on a new line ends them whatever it is, also a semicolon.
+-- The end directly behind `continue`, `break` and `return`: a token on a new line ends them
+-- whatever it is, also a semicolon.
 pub data EndsAtOnce (next : Symbol) : Symbols → Type 0 where
   semicolon : EndsAtOnce next (mark m.Semicolon false ∷ [])
   before_brace : next.kind ≡ k.Mark m.CloseBrace → EndsAtOnce next []

@@ -25,7 +25,8 @@ pub record Begins (form : Form) (functions : ℕ) (used : Symbols) : Type 0 wher
   pub unlimited : IsUnlimited form functions (used ++ more) tree
 
 -- this token, behind those used, is the first with which no such script begins
-pub record Breaks (form : Form) (functions : ℕ) (tokens used : List Token) (token : Token) : Type 0 where
+pub record Breaks (form : Form) (functions : ℕ) (tokens used : List Token)
+    (token : Token) : Type 0 where
   pub rest : List Token
   pub whole : tokens ≡ used ++ (token ∷ rest)
   pub begins : Begins form functions (symbols used)
@@ -34,7 +35,8 @@ pub record Breaks (form : Form) (functions : ℕ) (tokens used : List Token) (to
 -- such scripts begin with these tokens, and each of them breaks a limit
 pub record IsSpent (form : Form) (limits : Limits) (used : Symbols) : Type 0 where
   pub begins : Begins form limits.functions used
-  pub over : (more : Symbols) (tree : Script) → IsUnlimited form limits.functions (used ++ more) tree → Keeps limits (used ++ more) tree → ⊥
+  pub over : (more : Symbols) (tree : Script)
+      → IsUnlimited form limits.functions (used ++ more) tree → Keeps limits (used ++ more) tree → ⊥
 
 -- ---- the answer at the breaking token
 
@@ -120,19 +122,26 @@ is_too_many functions used _ = false
 
 abbrev pub answer : ℕ → Symbols → Token → Answer
 answer functions used token =
-    if is_too_many functions used token.kind then TooMany token.place else refused token.place (construct used token.kind)
+    if is_too_many functions used token.kind then TooMany token.place else refused token.place
+    (construct used token.kind)
 
 -- ---- the fault
 
--- What may be told. At a breaking token it is the answer for that token; where the tokens before it are spent from some token on, it may
--- be TooDeep instead. Where there is no breaking token a limit is broken, and it is TooDeep. The place of TooDeep is that of the first token of the
--- first statement or declaration of the script in which a limit breaks, where the tokens are spent in one of the scripts that they begin.
+-- What may be told. At a breaking token it is the answer for that token; where the tokens before it
+-- are spent from some token on, it may be TooDeep instead. Where there is no breaking token a limit
+-- is broken, and it is TooDeep. The place of TooDeep is that of the first token of the first
+-- statement or declaration of the script in which a limit breaks, where the tokens are spent in one
+-- of the scripts that they begin.
 pub data Fault (form : Form) (limits : Limits) (tokens : List Token) : Answer → Type 0 where
-  breaking : {told : Answer} (used : List Token) (token : Token) → Breaks form limits.functions tokens used token
+  breaking : {told : Answer} (used : List Token) (token : Token)
+      → Breaks form limits.functions tokens used token
       → answer limits.functions (symbols used) token ≡ told → Fault form limits tokens told
-  over : (before rest : List Token) (token : Token) → tokens ≡ before ++ (token ∷ rest) → IsOverAt form limits (symbols tokens) (length before)
+  over : (before rest : List Token) (token : Token) → tokens ≡ before ++ (token ∷ rest)
+      → IsOverAt form limits (symbols tokens) (length before)
       → Fault form limits tokens (TooDeep token.place)
-  spent : (used spent_front between before rest : List Token) (breaking_token token : Token) (more : Symbols) → Breaks form limits.functions tokens used breaking_token
+  spent : (used spent_front between before rest : List Token) (breaking_token token : Token)
+      (more : Symbols) → Breaks form limits.functions tokens used breaking_token
       → used ≡ spent_front ++ between → IsSpent form limits (symbols spent_front)
-      → spent_front ≡ before ++ (token ∷ rest) → IsOverAt form limits (symbols spent_front ++ more) (length before)
+      → spent_front ≡ before ++ (token ∷ rest)
+      → IsOverAt form limits (symbols spent_front ++ more) (length before)
       → Fault form limits tokens (TooDeep token.place)

@@ -13,6 +13,8 @@ pub mod Printed
 pub mod PrintedText
 pub mod Rows
 pub mod TextRows
+pub mod HeightRows
+pub mod FaultRows
 pub mod WellPlaced
 pub mod Laws
 pub mod RefusedRows

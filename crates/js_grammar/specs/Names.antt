@@ -38,7 +38,9 @@ is_own = begins (codes "$dl_")
 
 -- the number of a function in decimal, without a leading zero
 abbrev pub is_numeral : List ℕ → Bool
-is_numeral digits = list_all is_digit digits && (not (first_is (λ c. nat_le c 48) digits) && is_function_number (number_of 10 digits))
+is_numeral digits =
+    list_all is_digit digits && (not (first_is (λ c. nat_le c 48) digits) && is_function_number
+    (number_of 10 digits))
 
 -- the cell `$dl_rk` of function k
 abbrev pub is_cell : Name → Bool

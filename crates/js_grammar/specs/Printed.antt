@@ -55,23 +55,28 @@ abbrev pub enclosed_if : Bool → Kinds → Kinds
 enclosed_if true u = enclosed u
 enclosed_if false u = u
 
--- An operand is in parentheses where its level is below the one that its place needs, where it is an `in` that may not stand there, and for
--- a reason of the place. In its parentheses an `in` may stand.
+-- An operand is in parentheses where its level is below the one that its place needs, where it is
+-- an `in` that may not stand there, and for a reason of the place. In its parentheses an `in` may
+-- stand.
 abbrev pub needs : Bool → Bool → ℕ → Expr → Bool
-needs reason with_in least x = reason || (nat_lt (level_of x) least || (not with_in && is_in_operation x))
+needs reason with_in least x =
+    reason || (nat_lt (level_of x) least || (not with_in && is_in_operation x))
 
 -- `written` gives the operand's tokens, where the operator `in` may stand or not
 abbrev pub operand_for : Bool → Bool → ℕ → Expr → (Bool → Kinds) → Kinds
-operand_for reason with_in least x written = enclosed_if (needs reason with_in least x) (written (with_in || needs reason with_in least x))
+operand_for reason with_in least x written =
+    enclosed_if (needs reason with_in least x) (written (with_in || needs reason with_in least x))
 
 abbrev pub operand : Bool → ℕ → Expr → (Bool → Kinds) → Kinds
 operand = operand_for false
 
 -- ---- parts
 
--- a key is written as a name where it is one that is no word, of ASCII characters, and else as a string
+-- a key is written as a name where it is one that is no word, of ASCII characters, and else as a
+-- string
 abbrev pub key_kind : Name → TokenKind
-key_kind key = if is_name key && list_all (λ unit. nat_lt unit 128) key then k.Name key else k.Str key
+key_kind key =
+    if is_name key && list_all (λ unit. nat_lt unit 128) key then k.Name key else k.Str key
 
 abbrev pub truth_kind : Bool → TokenKind
 truth_kind true = k.Word w.True
@@ -108,7 +113,8 @@ expression_statement u = enclosed_if (begins_as_another u) u ++ (k.Mark m.Semico
 -- ---- trees
 
 abbrev mutual
-  -- the tokens of an expression without parentheses around it, where the operator `in` may stand outside brackets or not
+  -- the tokens of an expression without parentheses around it, where the operator `in` may stand
+  -- outside brackets or not
   pub expr : Expr → Bool → Kinds
   expr (Tree.Num n) i = k.Number n ∷ []
   expr (Tree.Str text) i = k.Str text ∷ []
@@ -119,21 +125,41 @@ abbrev mutual
   expr (Tree.Array es) i = k.Mark m.OpenBracket ∷ (elements es ++ (k.Mark m.CloseBracket ∷ []))
   expr (Tree.Object ps) i = k.Mark m.OpenBrace ∷ (pairs ps ++ (k.Mark m.CloseBrace ∷ []))
   expr (Tree.Function f) i = func f
-  expr (Tree.Dot object name) i = operand_for (is_number object || is_function object) i 16 object (expr object) ++ (k.Mark m.Dot ∷ (k.Name name ∷ []))
-  expr (Tree.Index object key) i = operand_for (is_function object) i 16 object (expr object) ++ (k.Mark m.OpenBracket ∷ (operand true 1 key (expr key) ++ (k.Mark m.CloseBracket ∷ [])))
-  expr (Tree.Call callee es) i = operand_for (is_function callee) i 16 callee (expr callee) ++ enclosed (exprs es)
-  expr (Tree.New callee es) i = k.Word w.New ∷ (operand_for (is_function callee || has_call callee) i 16 callee (expr callee) ++ enclosed (exprs es))
+  expr (Tree.Dot object name) i =
+      operand_for (is_number object || is_function object) i 16 object (expr object)
+      ++ (k.Mark m.Dot ∷ (k.Name name ∷ []))
+  expr (Tree.Index object key) i =
+      operand_for (is_function object) i 16 object (expr object)
+      ++ (k.Mark m.OpenBracket ∷ (operand true 1 key (expr key) ++ (k.Mark m.CloseBracket ∷ [])))
+  expr (Tree.Call callee es) i =
+      operand_for (is_function callee) i 16 callee (expr callee) ++ enclosed (exprs es)
+  expr (Tree.New callee es) i =
+      k.Word w.New
+      ∷ (operand_for (is_function callee || has_call callee) i 16 callee (expr callee)
+      ++ enclosed (exprs es))
   expr (Tree.Postfix target op) i = operand i 16 target (expr target) ++ (postfix_sign op ∷ [])
   expr (Tree.Prefix op x) i = prefix_sign op ∷ operand i (prefix_least (changes op)) x (expr x)
   expr (Tree.Binary op left right) i =
-      operand i (level (Operation op)) left (expr left) ++ (sign (Operation op) ∷ operand i (suc (level (Operation op))) right (expr right))
-  expr (Tree.And left right) i = operand i (level LogicalAnd) left (expr left) ++ (sign LogicalAnd ∷ operand i (suc (level LogicalAnd)) right (expr right))
-  expr (Tree.Or left right) i = operand i (level LogicalOr) left (expr left) ++ (sign LogicalOr ∷ operand i (suc (level LogicalOr)) right (expr right))
-  expr (Tree.Comma left right) i = operand i 1 left (expr left) ++ (k.Mark m.Comma ∷ operand i 2 right (expr right))
+      operand i (level (Operation op)) left (expr left)
+      ++ (sign (Operation op) ∷ operand i (suc (level (Operation op))) right (expr right))
+  expr (Tree.And left right) i =
+      operand i (level LogicalAnd) left (expr left)
+      ++ (sign LogicalAnd ∷ operand i (suc (level LogicalAnd)) right (expr right))
+  expr (Tree.Or left right) i =
+      operand i (level LogicalOr) left (expr left)
+      ++ (sign LogicalOr ∷ operand i (suc (level LogicalOr)) right (expr right))
+  expr (Tree.Comma left right) i =
+      operand i 1 left (expr left) ++ (k.Mark m.Comma ∷ operand i 2 right (expr right))
   expr (Tree.Cond test middle other) i =
-      operand i 4 test (expr test) ++ (k.Mark m.Question ∷ (operand i 2 middle (expr middle) ++ (k.Mark m.Colon ∷ operand i 2 other (expr other))))
-  expr (Tree.Assign op target value) i = operand i 16 target (expr target) ++ (k.Mark (assignment_mark (assignment op)) ∷ operand i 2 value (expr value))
-  expr (Tree.Late n) i = k.Name (codes "eval") ∷ k.Mark m.OpenParenthesis ∷ k.Name get_name ∷ k.Mark m.OpenParenthesis ∷ k.Number n ∷ k.Mark m.CloseParenthesis ∷ k.Mark m.CloseParenthesis ∷ []
+      operand i 4 test (expr test)
+      ++ (k.Mark m.Question
+      ∷ (operand i 2 middle (expr middle) ++ (k.Mark m.Colon ∷ operand i 2 other (expr other))))
+  expr (Tree.Assign op target value) i =
+      operand i 16 target (expr target)
+      ++ (k.Mark (assignment_mark (assignment op)) ∷ operand i 2 value (expr value))
+  expr (Tree.Late n) i =
+      k.Name (codes "eval") ∷ k.Mark m.OpenParenthesis ∷ k.Name get_name ∷ k.Mark m.OpenParenthesis
+      ∷ k.Number n ∷ k.Mark m.CloseParenthesis ∷ k.Mark m.CloseParenthesis ∷ []
 
   -- arguments, with commas between
   pub exprs : Tree.Exprs → Kinds
@@ -163,41 +189,58 @@ abbrev mutual
   pub other_elements : MaybeExpr → Tree.Elements → Kinds
   other_elements Tree.NoExpr Tree.NoElements = k.Mark m.Comma ∷ []
   other_elements (Tree.AnExpr x) Tree.NoElements = []
-  other_elements e (Tree.MoreElements next es) = k.Mark m.Comma ∷ (element next ++ other_elements next es)
+  other_elements e (Tree.MoreElements next es) =
+      k.Mark m.Comma ∷ (element next ++ other_elements next es)
 
   pub pairs : Tree.Pairs → Kinds
   pairs Tree.NoPairs = []
-  pairs (Tree.MorePairs key value ps) = key_kind key ∷ (k.Mark m.Colon ∷ (operand true 2 value (expr value) ++ other_pairs ps))
+  pairs (Tree.MorePairs key value ps) =
+      key_kind key ∷ (k.Mark m.Colon ∷ (operand true 2 value (expr value) ++ other_pairs ps))
 
   pub other_pairs : Tree.Pairs → Kinds
   other_pairs Tree.NoPairs = []
-  other_pairs (Tree.MorePairs key value ps) = k.Mark m.Comma ∷ (key_kind key ∷ (k.Mark m.Colon ∷ (operand true 2 value (expr value) ++ other_pairs ps)))
+  other_pairs (Tree.MorePairs key value ps) =
+      k.Mark m.Comma ∷ (key_kind key ∷ (k.Mark m.Colon
+      ∷ (operand true 2 value (expr value) ++ other_pairs ps)))
 
   -- a function, declared or in an expression
   pub func : Func → Kinds
   func (Tree.Code number name formals body role) =
-      k.Word w.Function ∷ (maybe_name name ++ (enclosed (names formals) ++ (k.Mark m.OpenBrace ∷ (stmts body ++ (k.Mark m.CloseBrace ∷ [])))))
+      k.Word w.Function ∷ (maybe_name name ++
+      (enclosed (names formals) ++ (k.Mark m.OpenBrace
+      ∷ (stmts body ++ (k.Mark m.CloseBrace ∷ [])))))
 
   pub stmt : Stmt → Kinds
   stmt (Tree.Block body) = k.Mark m.OpenBrace ∷ (stmts body ++ (k.Mark m.CloseBrace ∷ []))
   stmt (Tree.Variables items) = k.Word w.Var ∷ (var_items items true ++ (k.Mark m.Semicolon ∷ []))
   stmt Tree.Empty = k.Mark m.Semicolon ∷ []
   stmt (Tree.Do e) = expression_statement (expr e true)
-  stmt (Tree.If test body other) = k.Word w.If ∷ (enclosed (expr test true) ++ (stmt body ++ else_part other))
-  stmt (Tree.DoWhile body test) = k.Word w.Do ∷ (stmt body ++ (k.Word w.While ∷ (enclosed (expr test true) ++ (k.Mark m.Semicolon ∷ []))))
+  stmt (Tree.If test body other) =
+      k.Word w.If ∷ (enclosed (expr test true) ++ (stmt body ++ else_part other))
+  stmt (Tree.DoWhile body test) =
+      k.Word w.Do ∷ (stmt body ++ (k.Word w.While
+      ∷ (enclosed (expr test true) ++ (k.Mark m.Semicolon ∷ []))))
   stmt (Tree.While test body) = k.Word w.While ∷ (enclosed (expr test true) ++ stmt body)
   stmt (Tree.For first test next body) =
-      k.Word w.For ∷ (enclosed (for_init first ++ (k.Mark m.Semicolon ∷ (maybe_expr test ++ (k.Mark m.Semicolon ∷ maybe_expr next)))) ++ stmt body)
-  stmt (Tree.ForIn target object body) = k.Word w.For ∷ (enclosed (for_target target ++ (k.Word w.In ∷ expr object true)) ++ stmt body)
+      k.Word w.For ∷ (enclosed (for_init first
+      ++ (k.Mark m.Semicolon ∷ (maybe_expr test ++ (k.Mark m.Semicolon ∷ maybe_expr next))))
+      ++ stmt body)
+  stmt (Tree.ForIn target object body) =
+      k.Word w.For ∷ (enclosed (for_target target ++ (k.Word w.In ∷ expr object true)) ++ stmt body)
   stmt (Tree.Continue label) = k.Word w.Continue ∷ (maybe_name label ++ (k.Mark m.Semicolon ∷ []))
   stmt (Tree.Break label) = k.Word w.Break ∷ (maybe_name label ++ (k.Mark m.Semicolon ∷ []))
   stmt (Tree.Return value) = k.Word w.Return ∷ (maybe_expr value ++ (k.Mark m.Semicolon ∷ []))
-  stmt (Tree.Switch value cs) = k.Word w.Switch ∷ (enclosed (expr value true) ++ (k.Mark m.OpenBrace ∷ (cases cs ++ (k.Mark m.CloseBrace ∷ []))))
+  stmt (Tree.Switch value cs) =
+      k.Word w.Switch ∷ (enclosed (expr value true)
+      ++ (k.Mark m.OpenBrace ∷ (cases cs ++ (k.Mark m.CloseBrace ∷ []))))
   stmt (Tree.Label name body) = k.Name name ∷ (k.Mark m.Colon ∷ stmt body)
   stmt (Tree.Throw e) = k.Word w.Throw ∷ (expr e true ++ (k.Mark m.Semicolon ∷ []))
-  stmt (Tree.Try block caught last) = k.Word w.Try ∷ (stmt block ++ (handler caught ++ finally_part last))
+  stmt (Tree.Try block caught last) =
+      k.Word w.Try ∷ (stmt block ++ (handler caught ++ finally_part last))
   stmt (Tree.Declare f) = func f
-  stmt (Tree.Used n) = k.Name (codes "$dl_use") ∷ (k.Mark m.OpenParenthesis ∷ (k.Number n ∷ (k.Mark m.CloseParenthesis ∷ (k.Mark m.Semicolon ∷ []))))
+  stmt (Tree.Used n) =
+      k.Name (codes "$dl_use") ∷ (k.Mark m.OpenParenthesis
+      ∷ (k.Number n ∷ (k.Mark m.CloseParenthesis ∷ (k.Mark m.Semicolon ∷ []))))
 
   pub stmts : Tree.Stmts → Kinds
   stmts Tree.NoStmts = []
@@ -228,11 +271,13 @@ abbrev mutual
   -- the declarators of a list, where the operator `in` may stand or not
   pub var_items : Tree.VarItems → Bool → Kinds
   var_items Tree.NoVarItems i = []
-  var_items (Tree.MoreVarItems name value rest) i = k.Name name ∷ (initialiser value i ++ other_var_items rest i)
+  var_items (Tree.MoreVarItems name value rest) i =
+      k.Name name ∷ (initialiser value i ++ other_var_items rest i)
 
   pub other_var_items : Tree.VarItems → Bool → Kinds
   other_var_items Tree.NoVarItems i = []
-  other_var_items (Tree.MoreVarItems name value rest) i = k.Mark m.Comma ∷ (k.Name name ∷ (initialiser value i ++ other_var_items rest i))
+  other_var_items (Tree.MoreVarItems name value rest) i =
+      k.Mark m.Comma ∷ (k.Name name ∷ (initialiser value i ++ other_var_items rest i))
 
   pub initialiser : MaybeExpr → Bool → Kinds
   initialiser Tree.NoExpr i = []
@@ -240,7 +285,8 @@ abbrev mutual
 
   pub cases : Tree.Cases → Kinds
   cases Tree.NoCases = []
-  cases (Tree.MoreCases test body rest) = case_head test ++ (k.Mark m.Colon ∷ (stmts body ++ cases rest))
+  cases (Tree.MoreCases test body rest) =
+      case_head test ++ (k.Mark m.Colon ∷ (stmts body ++ cases rest))
 
   pub case_head : MaybeExpr → Kinds
   case_head Tree.NoExpr = k.Word w.Default ∷ []

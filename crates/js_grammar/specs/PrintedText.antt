@@ -1,4 +1,5 @@
--- The text of tokens, and of whole trees. A text is a list of characters here, and its bytes are theirs in UTF-8.
+-- The text of tokens, and of whole trees. A text is a list of characters here, and its bytes are
+-- theirs in UTF-8.
 use Rattle.std.specs.Prelude.{ℕ, ◌||◌, ◌&&◌, Bool, true, false, List, [], ◌∷◌, ◌++◌, codes, encode_utf8_all}
 use Rattle.std.specs.Char.Utf16.{utf16_lossy_chars}
 use Rattle.std.specs.Fmt.{decimal}
@@ -26,12 +27,14 @@ last_is p [] = false
 last_is p (c ∷ []) = p c
 last_is p (c ∷ d ∷ cs) = last_is p (d ∷ cs)
 
--- One space stands between two tokens that would else be read as others: where both meet in characters that may continue a name, between `+` and what
--- begins with `+`, and between `-` and what begins with `-`.
+-- One space stands between two tokens that would else be read as others: where both meet in
+-- characters that may continue a name, between `+` and what begins with `+`, and between `-` and
+-- what begins with `-`.
 abbrev pub needs_space : List ℕ → List ℕ → Bool
 needs_space before after =
     (last_is continues_name before && first_is continues_name after)
-    || ((is_spelled (codes "+") before && begins (codes "+") after) || (is_spelled (codes "-") before && begins (codes "-") after))
+    || ((is_spelled (codes "+") before && begins (codes "+") after) ||
+    (is_spelled (codes "-") before && begins (codes "-") after))
 
 abbrev pub space : Bool → List ℕ
 space true = 32 ∷ []

@@ -16,4 +16,6 @@ line_of = map on_line
 
 -- The tokens that the tree of a script is written with are a script of this tree.
 abbrev pub PrintedTokensReadBack : Type 0
-PrintedTokensReadBack = (form : Form) (tokens : Symbols) (tree : Script) → Derives form tokens tree → Derives form (line_of (stmts tree) ++ (end false ∷ [])) tree
+PrintedTokensReadBack =
+    (form : Form) (tokens : Symbols) (tree : Script) → Derives form tokens tree
+    → Derives form (line_of (stmts tree) ++ (end false ∷ [])) tree

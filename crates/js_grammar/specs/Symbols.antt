@@ -1,5 +1,5 @@
--- Tokens without their places: what a token is, whether a line terminator stands before it, and whether it is a number in other than
--- decimal digits. The grammar knows no more of a token.
+-- Tokens without their places: what a token is, whether a line terminator stands before it, and
+-- whether it is a number in other than decimal digits. The grammar knows no more of a token.
 use Rattle.std.specs.Prelude.{ℕ, ◌-◌, ◌==◌, Bool, true, List, [], ◌∷◌, length, map}
 use Rattle.std.specs.Fmt.{decimal}
 use Rattle.js_lexer.specs.declared.mark.Mark.{Mark}
@@ -16,14 +16,19 @@ pub record Symbol : Type 0 where
 abbrev pub Symbols : Type 0
 Symbols = List Symbol
 
--- A number of so many characters is in decimal where these are as many as its decimal has. `0x` makes the spelling of each number of a
--- function longer. Other tokens count as in decimal.
+-- A number of so many characters is in decimal where these are as many as its decimal has. `0x`
+-- makes the spelling of each number of a function longer. Other tokens count as in decimal.
 abbrev pub is_in_decimal : TokenKind → ℕ → Bool
 is_in_decimal (k.Number n) characters = characters == length (decimal n)
 is_in_decimal _ characters = true
 
 abbrev pub symbol : Token → Symbol
-symbol t = record { kind = t.kind; newline = t.newline; in_decimal = is_in_decimal t.kind (t.end - t.start) }
+symbol t = record {
+  kind = t.kind;
+  newline = t.newline;
+  in_decimal = is_in_decimal t.kind
+      (t.end - t.start);
+}
 
 abbrev pub symbols : List Token → Symbols
 symbols = map symbol

@@ -1,6 +1,7 @@
--- Rows by texts: what the tokens of a text are, and whether scripts begin with them.
--- In a row tokens stand apart by one space, or by one line feed, which is a line terminator. One that begins with a digit is a number, one
--- with a quote a string, one that is spelled as a mark or a word is that, and any other a name.
+-- Rows by texts: what the tokens of a text are, and whether scripts begin with them. In a row
+-- tokens stand apart by one space, or by one line feed, which is a line terminator. One that begins
+-- with a digit is a number, one with a quote a string, one that is spelled as a mark or a word is
+-- that, and any other a name.
 use Rattle.std.specs.Prelude.{ℕ, ◌-◌, ◌≡◌, ◌==◌, ◌&&◌, nat_lt, nat_le, not, Bool, true, false, List, [], ◌∷◌, ◌++◌, length, take, drop, map, filter, codes, Option, Some, None, if◌then◌else◌}
 use Rattle.std.specs.List.{find}
 use Rattle.js_lexer.specs.Characters.{begins, first_is, is_digit, number_of}
@@ -31,12 +32,20 @@ pub record Split : Type 0 where
   pub behind : List Spelled
 
 abbrev pub parted : Bool → Split → Split
-parted newline rest = record { characters = []; behind = record { characters = rest.characters; newline = newline } ∷ rest.behind }
+parted newline rest = record {
+  characters = [];
+  behind =
+      record { characters = rest.characters; newline = newline } ∷ rest.behind;
+}
 
 abbrev pub and_split : ℕ → Split → Split
 and_split c rest =
     if c == 32 then parted false rest
-    else (if c == 10 then parted true rest else record { characters = c ∷ rest.characters; behind = rest.behind })
+    else (if c == 10 then parted true rest else record {
+      characters = c ∷ rest.characters;
+      behind =
+          rest.behind;
+    })
 
 abbrev pub split : List ℕ → Split
 split [] = record { characters = []; behind = [] }
@@ -73,12 +82,14 @@ told_by true quote letter long cs = number_in (not (is_hexadecimal cs)) (value c
 told_by false true letter long cs = string (drop 1 (take (length cs - 1) cs))
 told_by false false true true cs = word_or_name (words.word_of cs) cs
 told_by false false true false cs = name cs
-told_by false false false long cs = mark_or_name (find (λ m. words.is_spelled (marks.spelling m) cs) marks.marks) cs
+told_by false false false long cs = mark_or_name
+    (find (λ m. words.is_spelled (marks.spelling m) cs) marks.marks) cs
 
 abbrev pub told : Spelled → Symbol
 told s =
     let cs = s.characters in
-    told_by (first_is is_digit cs) (first_is is_quote cs) (first_is is_letter cs) (is_long cs) cs s.newline
+    told_by (first_is is_digit cs) (first_is is_quote cs) (first_is is_letter cs)
+    (is_long cs) cs s.newline
 
 abbrev pub is_some : Spelled → Bool
 is_some s = nat_lt 0 (length s.characters)

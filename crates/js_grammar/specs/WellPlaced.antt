@@ -1,4 +1,5 @@
--- Which tokens stand in a script at all, and that a name does not stand directly behind another on its line.
+-- Which tokens stand in a script at all, and that a name does not stand directly behind another on
+-- its line.
 use Rattle.std.specs.Prelude.{◌&&◌, ◌||◌, not, Bool, true, false, [], ◌∷◌}
 use Rattle.js_lexer.specs.declared.word.Word.{Word}
 use Rattle.js_lexer.specs.declared.word.Word.TheVariants as w
@@ -58,4 +59,5 @@ may_come form behind_name s = stands form s.kind && not (behind_name && is_name_
 
 abbrev pub are_placed : Form → Bool → Symbols → Bool
 are_placed form behind_name [] = true
-are_placed form behind_name (s ∷ ss) = may_come form behind_name s && are_placed form (is_name s.kind) ss
+are_placed form behind_name (s ∷ ss) = may_come form behind_name s && are_placed form
+    (is_name s.kind) ss

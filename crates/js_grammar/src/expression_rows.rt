@@ -76,7 +76,8 @@ pub fn operators()
         (codes "( a >> b ) >> c ; a < ( b >> c ) ; ( a >> b ) < c") }
     ensures shift_right_below { row.Same Source (codes "a >> b + c ; a + b >> c")
         (codes "a >> ( b + c ) ; ( a + b ) >> c") }
-    ensures shift_right_unsigned { row.Same Source (codes "a >>> b >>> c ; a < b >>> c ; a >>> b < c")
+    ensures shift_right_unsigned { row.Same Source
+        (codes "a >>> b >>> c ; a < b >>> c ; a >>> b < c")
         (codes "( a >>> b ) >>> c ; a < ( b >>> c ) ; ( a >>> b ) < c") }
     ensures shift_right_unsigned_below { row.Same Source (codes "a >>> b + c ; a + b >>> c")
         (codes "a >>> ( b + c ) ; ( a + b ) >>> c") }
@@ -100,7 +101,8 @@ pub fn operators()
 pub fn assignments()
     ensures assigned { row.Reads Source (codes "a = b ; a *= b ; a /= b ; a %= b ; a += b ; a -= b")
         (codes "a=b;a*=b;a/=b;a%=b;a+=b;a-=b;\n") }
-    ensures shifted { row.Reads Source (codes "a <<= b ; a >>= b ; a >>>= b ; a &= b ; a ^= b ; a |= b")
+    ensures shifted { row.Reads Source
+        (codes "a <<= b ; a >>= b ; a >>>= b ; a &= b ; a ^= b ; a |= b")
         (codes "a<<=b;a>>=b;a>>>=b;a&=b;a^=b;a|=b;\n") }
     ensures to_the_right { row.Same Source (codes "a = b += c") (codes "a = ( b += c )") }
     ensures above_conditional { row.Same Source (codes "a = b ? c : d")
@@ -114,7 +116,8 @@ pub fn assignments()
     ensures commas { row.Same Source (codes "a , b , c") (codes "( a , b ) , c") }
     ensures above_comma { row.Same Source (codes "a = b , c = d ? e : f , g")
         (codes "( ( a = b ) , ( c = ( d ? e : f ) ) ) , g") }
-    ensures targets { row.Reads Source (codes "( a ) = b ; a . b = c ; ( ( a [ b ] ) ) = c ; a ( ) . b = c")
+    ensures targets { row.Reads Source
+        (codes "( a ) = b ; a . b = c ; ( ( a [ b ] ) ) = c ; a ( ) . b = c")
         (codes "a=b;a.b=c;a[b]=c;a().b=c;\n") }
     ensures no_number { row.BreaksAt Source (codes "1") (codes "=") }
     ensures no_call { row.BreaksAt Source (codes "a ( )") (codes "=") }
@@ -162,7 +165,8 @@ pub fn calls()
         (codes "( new a ( b ) ) ( c ) ; ( new ( a . b ) ( c ) ) . d") }
     ensures new_without_arguments { row.Same Source (codes "new a ; new a . b ; new a [ b ]")
         (codes "new a ( ) ; new ( a . b ) ( ) ; new ( a [ b ] ) ( )") }
-    ensures new_twice { row.Same Source (codes "new new a ; new new a ( b ) ; new new a ( b ) ( c )")
+    ensures new_twice { row.Same Source
+        (codes "new new a ; new new a ( b ) ; new new a ( b ) ( c )")
         (codes "new ( new a ) ; new ( new a ( b ) ) ; new ( new a ( b ) ) ( c )") }
     ensures new_in_operations { row.Same Source (codes "- new a + b ; new a ? b : c")
         (codes "( - ( new a ) ) + b ; ( new a ) ? b : c") }
@@ -180,11 +184,11 @@ pub fn calls()
 pub fn literals()
     ensures primaries { row.Reads Source (codes "this ; null ; true ; false ; 1 ; 0x1F ; \"b\"")
         (codes "this;null;true;false;1;31;\"b\";\n") }
-    ensures arrays { row.Reads Source (codes "[ ] ; [ 1 ] ; [ 1 , ] ; [ , ] ; [ 1 , , 2 , ] ; [ , , 1 ]")
+    ensures arrays { row.Reads Source
+        (codes "[ ] ; [ 1 ] ; [ 1 , ] ; [ , ] ; [ 1 , , 2 , ] ; [ , , 1 ]")
         (codes "[];[1];[1];[,];[1,,2];[,,1];\n") }
     ensures objects { row.Reads Source
-        (codes "( { } ) ; ( { a : 1 } ) ; ( { a : 1 , } ) ; ( { \"b\" : 1 , 2 : 3 , "
-        ++ codes "0x1F : 4 } )")
+        (codes "( { } ) ; ( { a : 1 } ) ; ( { a : 1 , } ) ; ( { \"b\" : 1 , 2 : 3 , 0x1F : 4 } )")
         (codes "({});({a:1});({a:1});({b:1,\"2\":3,\"31\":4});\n") }
     ensures elements { row.Same Source (codes "[ a = b , c ] ; ( { a : b = c , d : e } )")
         (codes "[ ( a = b ) , ( c ) ] ; ( { a : ( b = c ) , d : ( e ) } )") }
@@ -201,7 +205,8 @@ pub fn headers()
     ensures in_brackets { row.Reads Source
         (codes "for ( a [ 1 in x ] ; ; ) ; for ( f ( 1 in x ) ; ; ) ; for ( [ 1 in x ] ; ; ) ;")
         (codes "for(a[1 in x];;);for(f(1 in x);;);for([1 in x];;);\n") }
-    ensures in_parentheses { row.Reads Source (codes "for ( ( 1 in x ) ; ; ) ; for ( ( ( 1 in x ) , 2 ) ; ; ) ;")
+    ensures in_parentheses { row.Reads Source
+        (codes "for ( ( 1 in x ) ; ; ) ; for ( ( ( 1 in x ) , 2 ) ; ; ) ;")
         (codes "for((1 in x);;);for((1 in x),2;;);\n") }
     ensures in_the_middle { row.Reads Source (codes "for ( a ? 1 in x : b ; ; ) ;")
         (codes "for(a?(1 in x):b;;);\n") }
@@ -244,7 +249,8 @@ pub fn written_form()
     ensures cells { row.Reads Written
         (codes "$dl_r1 = 2 ; a . $dl_r65535 ; $dl_r3 : ; x = { $dl_r4 : 1 } ; var $dl_r5")
         (codes "$dl_r1=2;a.$dl_r65535;$dl_r3:;x={$dl_r4:1};var $dl_r5;\n") }
-    ensures bound_cells { row.Reads Written (codes "function $dl_r1 ( $dl_r2 ) { } try { } catch ( $dl_r3 ) { }")
+    ensures bound_cells { row.Reads Written
+        (codes "function $dl_r1 ( $dl_r2 ) { } try { } catch ( $dl_r3 ) { }")
         (codes "function $dl_r1($dl_r2){}try{}catch($dl_r3){}\n") }
     ensures cell_zero { row.BreaksAt Written (codes "x =") (codes "$dl_r0") }
     ensures cell_with_zero { row.BreaksAt Written (codes "x =") (codes "$dl_r01") }
@@ -265,7 +271,8 @@ pub fn written_form()
 
 /// Which names may stand where.
 pub fn names()
-    ensures members { row.Reads Source (codes "a . eval ; a . Function ; a . Infinity ; a . arguments")
+    ensures members { row.Reads Source
+        (codes "a . eval ; a . Function ; a . Infinity ; a . arguments")
         (codes "a.eval;a.Function;a.Infinity;a.arguments;\n") }
     ensures keys { row.Reads Source
         (codes "x = { eval : 1 , Function : 2 , Infinity : 3 , arguments : 4 , callee "
@@ -274,7 +281,8 @@ pub fn names()
     ensures as_names { row.Reads Source
         (codes "callee ; caller ; arguments ; arguments : ; arguments = 1 ; a . $dl")
         (codes "callee;caller;arguments;arguments:;arguments=1;a.$dl;\n") }
-    ensures bound { row.Reads Source (codes "var callee ; function caller ( evals , Functions , $dl ) { }")
+    ensures bound { row.Reads Source
+        (codes "var callee ; function caller ( evals , Functions , $dl ) { }")
         (codes "var callee;function caller(evals,Functions,$dl){}\n") }
     ensures no_eval { row.BreaksAt Source (codes "x =") (codes "eval") }
     ensures no_function_name { row.BreaksAt Source (codes "x =") (codes "Function") }

@@ -31,8 +31,8 @@ pub fn one_list_of_formals()
     ensures { law.OneListOfFormals }
 {}
 
-/// No token of what begins a script is refused whatever stands around it, and no name stands directly behind another on its
-/// line.
+/// No token of what begins a script is refused whatever stands around it, and no name stands
+/// directly behind another on its line.
 pub fn tokens_are_placed()
     ensures { law.TokensArePlaced }
 {}
@@ -92,7 +92,8 @@ pub fn accepted_has_no_fault()
     ensures { law.AcceptedHasNoFault }
 {}
 
-/// Where a script breaks a limit, one of its statements and declarations is the first in which it does.
+/// Where a script breaks a limit, one of its statements and declarations is the first in which it
+/// does.
 pub fn limits_break_in_a_statement()
     ensures { law.LimitsBreakInAStatement }
 {}

@@ -7,7 +7,8 @@ ghost use Rattle.js_grammar.specs.TextRows as row;
 
 /// Where operands are in parentheses.
 pub fn parentheses()
-    ensures below_a_level { row.Reads Source (codes "( a = b ) + c ; ( a , b ) + c ; ( a ? b : c ) + d ; a + ( b = c )")
+    ensures below_a_level { row.Reads Source
+        (codes "( a = b ) + c ; ( a , b ) + c ; ( a ? b : c ) + d ; a + ( b = c )")
         (codes "(a=b)+c;(a,b)+c;(a?b:c)+d;a+(b=c);\n") }
     ensures at_a_level { row.Reads Source
         (codes "( a + b ) + c ; a + ( b + c ) ; ( a * b ) + c ; a * ( b + c ) ; ( a + b ) * c")
@@ -29,14 +30,14 @@ pub fn parentheses()
         ++ codes "; a ? ( b = c ) : ( d = e ) ; ( a || b ) ? c : d")
         (codes "(a?b:c)?d:e;(a=b)?c:d;a?(b,c):(d,e);a?b=c:d=e;a||b?c:d;\n") }
     ensures prefixes { row.Reads Source
-        (codes "! ( a + b ) ; ! ( a ++ ) ; ( ! a ) + b ; - ( - a ) ; ! ( a = b ) ; ++ "
-        ++ codes "( a . b )")
+        (codes "! ( a + b ) ; ! ( a ++ ) ; ( ! a ) + b ; - ( - a ) ; ! ( a = b ) ; ++ ( a . b )")
         (codes "!(a+b);!a++;!a+b;- -a;!(a=b);++a.b;\n") }
     ensures members { row.Reads Source
         (codes "( ! a ) . b ; ( a ++ ) . b ; ( a + b ) [ c ] ; ( a , b ) ( c ) ; a [ ( "
         ++ codes "b , c ) ] ; ( a = b ) . c")
         (codes "(!a).b;(a++).b;(a+b)[c];(a,b)(c);a[b,c];(a=b).c;\n") }
-    ensures numbers { row.Reads Source (codes "( 1 ) . a ; 1 [ a ] ; 1 ( ) ; \"a\" . b ; ( 1 + 2 ) . a")
+    ensures numbers { row.Reads Source
+        (codes "( 1 ) . a ; 1 [ a ] ; 1 ( ) ; \"a\" . b ; ( 1 + 2 ) . a")
         (codes "(1).a;1[a];1();\"a\".b;(1+2).a;\n") }
     ensures functions { row.Reads Source
         (codes "( function ( ) { } ) . a ; ( function ( ) { } ) [ a ] ; ( function ( ) "
@@ -55,7 +56,8 @@ pub fn parentheses()
         ++ codes "( b ) ; new ( ! a ) ; new ( ( a ( ) ) + b ) ; new ( 1 )")
         (codes "new new a()();new new a(b)(c);new a().b;new "
         ++ codes "a()(b);new(!a)();new(a()+b)();new 1();\n") }
-    ensures objects_and_arrays { row.Reads Source (codes "[ ] . a ; ( { } . a ) ; [ ] ( ) ; a . b . c")
+    ensures objects_and_arrays { row.Reads Source
+        (codes "[ ] . a ; ( { } . a ) ; [ ] ( ) ; a . b . c")
         (codes "[].a;({}.a);[]();a.b.c;\n") }
     ensures headers { row.Reads Source
         (codes "for ( ( 1 in x ) ; ; ) ; for ( var a = ( 1 in x ) , b = ( 2 in y ) ; ; "
@@ -88,20 +90,20 @@ pub fn parentheses()
 
 /// Where a space stands between two tokens.
 pub fn spaces()
-    ensures words { row.Reads Source (codes "typeof a ; a in b ; a instanceof b ; delete a ; void 0 ; new a")
+    ensures words { row.Reads Source
+        (codes "typeof a ; a in b ; a instanceof b ; delete a ; void 0 ; new a")
         (codes "typeof a;a in b;a instanceof b;delete a;void 0;new a();\n") }
-    ensures no_word { row.Reads Source (codes "typeof ( a + b ) ; ! a ; a [ 0 ] in b ; 1 in [ ] ; \"a\" in b")
+    ensures no_word { row.Reads Source
+        (codes "typeof ( a + b ) ; ! a ; a [ 0 ] in b ; 1 in [ ] ; \"a\" in b")
         (codes "typeof(a+b);!a;a[0]in b;1 in[];\"a\"in b;\n") }
     ensures statements { row.Reads Source
-        (codes "if ( a ) b ; else c ; do d ; while ( e ) ; throw f ; var g ; for ( var "
-        ++ codes "h in i ) ;")
+        (codes "if ( a ) b ; else c ; do d ; while ( e ) ; throw f ; var g ; for ( var h in i ) ;")
         (codes "if(a)b;else c;do d;while(e);throw f;var g;for(var h in i);\n") }
     ensures statements_without { row.Reads Source
         (codes "if ( a ) b ; else { } do { } while ( a ) ; throw [ ] ; throw \"a\" ; throw - a")
         (codes "if(a)b;else{}do{}while(a);throw[];throw\"a\";throw-a;\n") }
     ensures returns { row.Reads Source
-        (codes "function f ( ) { return a ; return ( { } ) ; return - a ; return ! a ; "
-        ++ codes "return 1 }")
+        (codes "function f ( ) { return a ; return ( { } ) ; return - a ; return ! a ; return 1 }")
         (codes "function f(){return a;return{};return-a;return!a;return 1;}\n") }
     ensures clauses { row.Reads Source (codes "switch ( a ) { case b : case \"c\" : case ( 1 ) : }")
         (codes "switch(a){case b:case\"c\":case 1:}\n") }

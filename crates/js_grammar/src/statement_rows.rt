@@ -17,8 +17,7 @@ pub fn statements()
         (codes "if ( a ) b ; if ( a , b ) c ; else d ; if ( a ) { } else if ( b ) { } else { }")
         (codes "if(a)b;if(a,b)c;else d;if(a){}else if(b){}else{}\n") }
     ensures loops { row.Reads Source
-        (codes "do a ; while ( b ) ; do { } while ( a , b ) ; while ( a ) b ; while ( "
-        ++ codes "a , b ) { }")
+        (codes "do a ; while ( b ) ; do { } while ( a , b ) ; while ( a ) b ; while ( a , b ) { }")
         (codes "do a;while(b);do{}while(a,b);while(a)b;while(a,b){}\n") }
     ensures for_loops { row.Reads Source
         (codes "for ( ; ; ) ; for ( a , b ; c ; d , e ) f ; for ( var a , b = 1 ; ; ) { }")
@@ -27,7 +26,8 @@ pub fn statements()
         (codes "for ( a in b ) ; for ( a . b in c , d ) ; for ( a [ b ] in c ) ; for ( "
         ++ codes "( a ) in b ) ;")
         (codes "for(a in b);for(a.b in c,d);for(a[b]in c);for(a in b);\n") }
-    ensures for_var_in_loops { row.Reads Source (codes "for ( var a in b , c ) ; for ( var a = 1 in b ) ;")
+    ensures for_var_in_loops { row.Reads Source
+        (codes "for ( var a in b , c ) ; for ( var a = 1 in b ) ;")
         (codes "for(var a in b,c);for(var a=1 in b);\n") }
     ensures switches { row.Reads Source
         (codes "switch ( a , b ) { } switch ( a ) { case b , c : d ; e ; case f : "
@@ -64,13 +64,15 @@ pub fn statements()
 
 /// With what an expression statement begins, and where functions stand.
 pub fn expression_statements()
-    ensures in_parentheses { row.Reads Source (codes "( { } ) . a ; ( function ( ) { } ) ; ( function ( ) { } , a )")
+    ensures in_parentheses { row.Reads Source
+        (codes "( { } ) . a ; ( function ( ) { } ) ; ( function ( ) { } , a )")
         (codes "({}.a);(function(){});(function(){},a);\n") }
     ensures inside { row.Reads Source (codes "a = { } ; ! function ( ) { } ; a , { }")
         (codes "a={};!function(){};a,{};\n") }
     ensures brace_is_a_block { row.BreaksAt Source (codes "{ a : 1 , b") (codes ":") }
     ensures function_is_declared { row.BreaksAt Source (codes "function") (codes "(") }
-    ensures declared { row.Reads Source (codes "function f ( ) { function g ( ) { } } a ; function h ( ) { }")
+    ensures declared { row.Reads Source
+        (codes "function f ( ) { function g ( ) { } } a ; function h ( ) { }")
         (codes "function f(){function g(){}}a;function h(){}\n") }
     ensures none_in_blocks { row.BreaksAt Source (codes "{") (codes "function") }
     ensures none_in_choices { row.BreaksAt Source (codes "if ( a )") (codes "function") }
@@ -120,12 +122,12 @@ pub fn jumps()
         ++ codes "b)break;switch(a){case 1:break;default:break;}\n") }
     ensures breaks_inside { row.Reads Source
         (codes "switch ( a ) { case 1 : { if ( b ) break ; try { break } finally { "
-        ++ codes "break } while ( c ) break ; c : break } }")
-        (codes "switch(a){case "
-        ++ codes "1:{if(b)break;try{break;}finally{break;}while(c)break;c:break;}}\n") }
+        ++ codes "break } c : break } }")
+        (codes "switch(a){case 1:{if(b)break;try{break;}finally{break;}c:break;}}\n") }
     ensures no_break { row.BreaksAt Source (codes "") (codes "break") }
     ensures no_break_in_choices { row.BreaksAt Source (codes "if ( a )") (codes "break") }
-    ensures no_break_in_functions { row.BreaksAt Source (codes "switch ( a ) { case b : x = function ( ) {")
+    ensures no_break_in_functions { row.BreaksAt Source
+        (codes "switch ( a ) { case b : x = function ( ) {")
         (codes "break") }
     ensures no_break_behind { row.BreaksAt Source (codes "switch ( a ) { }") (codes "break") }
 {}
@@ -133,13 +135,13 @@ pub fn jumps()
 /// Labels (ES3 12.7, 12.8, 12.12).
 pub fn labels()
     ensures broken { row.Reads Source
-        (codes "a : { break a ; { break a } } a : break a ; a : if ( b ) break a ; "
-        ++ codes "else break a")
+        (codes "a : { break a ; { break a } } a : break a ; a : if ( b ) break a ; else break a")
         (codes "a:{break a;{break a;}}a:break a;a:if(b)break a;else break a;\n") }
     ensures broken_inside { row.Reads Source
         (codes "a : switch ( b ) { case c : break a ; default : while ( d ) break a }")
         (codes "a:switch(b){case c:break a;default:while(d)break a;}\n") }
-    ensures broken_in_tries { row.Reads Source (codes "a : try { break a } catch ( b ) { break a } finally { break a }")
+    ensures broken_in_tries { row.Reads Source
+        (codes "a : try { break a } catch ( b ) { break a } finally { break a }")
         (codes "a:try{break a;}catch(b){break a;}finally{break a;}\n") }
     ensures every_label { row.Reads Source
         (codes "a : b : c : while ( d ) { break a ; break b ; break c ; continue a ; "
@@ -157,13 +159,16 @@ pub fn labels()
     ensures outer_labels { row.Reads Source (codes "a : { b : { break a ; break b } break a }")
         (codes "a:{b:{break a;break b;}break a;}\n") }
     ensures beside { row.Reads Source (codes "a : ; a : { } a : b") (codes "a:;a:{}a:b;\n") }
-    ensures in_functions { row.Reads Source (codes "a : x = function ( ) { a : while ( b ) continue a } ;")
+    ensures in_functions { row.Reads Source
+        (codes "a : x = function ( ) { a : while ( b ) continue a } ;")
         (codes "a:x=function(){a:while(b)continue a;};\n") }
     ensures no_label { row.BreaksAt Source (codes "while ( a ) break") (codes "b") }
     ensures no_label_behind { row.BreaksAt Source (codes "a : ; while ( b ) break") (codes "a") }
-    ensures no_label_out_of_functions { row.BreaksAt Source (codes "a : while ( b ) x = function ( ) { while ( c ) break")
+    ensures no_label_out_of_functions { row.BreaksAt Source
+        (codes "a : while ( b ) x = function ( ) { while ( c ) break")
         (codes "a") }
-    ensures no_loop_out_of_functions { row.BreaksAt Source (codes "a : while ( b ) x = function ( ) { while ( c ) continue")
+    ensures no_loop_out_of_functions { row.BreaksAt Source
+        (codes "a : while ( b ) x = function ( ) { while ( c ) continue")
         (codes "a") }
     ensures block_is_no_loop { row.BreaksAt Source (codes "a : { while ( b ) continue")
         (codes "a") }
@@ -171,13 +176,16 @@ pub fn labels()
         (codes "a") }
     ensures else_is_no_loop { row.BreaksAt Source (codes "a : if ( b ) ; else while ( c ) continue")
         (codes "a") }
-    ensures switch_is_no_loop { row.BreaksAt Source (codes "a : switch ( b ) { case c : while ( d ) continue")
+    ensures switch_is_no_loop { row.BreaksAt Source
+        (codes "a : switch ( b ) { case c : while ( d ) continue")
         (codes "a") }
     ensures try_is_no_loop { row.BreaksAt Source (codes "a : try { while ( b ) continue")
         (codes "a") }
-    ensures catch_is_no_loop { row.BreaksAt Source (codes "a : try { } catch ( b ) { while ( c ) continue")
+    ensures catch_is_no_loop { row.BreaksAt Source
+        (codes "a : try { } catch ( b ) { while ( c ) continue")
         (codes "a") }
-    ensures finally_is_no_loop { row.BreaksAt Source (codes "a : try { } finally { while ( b ) continue")
+    ensures finally_is_no_loop { row.BreaksAt Source
+        (codes "a : try { } finally { while ( b ) continue")
         (codes "a") }
     ensures inner_block_is_no_loop { row.BreaksAt Source (codes "a : { b : while ( c ) continue")
         (codes "a") }
@@ -191,7 +199,8 @@ pub fn labels()
 
 /// Inserted semicolons (ES3 7.9).
 pub fn semicolons()
-    ensures before_a_brace { row.Reads Source (codes "{ a } { var b } { throw c } { do ; while ( d ) }")
+    ensures before_a_brace { row.Reads Source
+        (codes "{ a } { var b } { throw c } { do ; while ( d ) }")
         (codes "{a;}{var b;}{throw c;}{do;while(d);}\n") }
     ensures before_the_end { row.Reads Source (codes "a") (codes "a;\n") }
     ensures on_a_line { row.Reads Source (codes "a\nb\nvar c\nd\nthrow e\nf")
@@ -199,7 +208,8 @@ pub fn semicolons()
     ensures signs_go_on { row.Reads Source (codes "a\n+ b\n- c") (codes "a+b-c;\n") }
     ensures brackets_go_on { row.Reads Source (codes "a\n[ b ]\n( c )\n. d")
         (codes "a[b](c).d;\n") }
-    ensures operators_go_on { row.Reads Source (codes "a\n= b\n? c\n: d\n, e\n|| f\nin g\ninstanceof h")
+    ensures operators_go_on { row.Reads Source
+        (codes "a\n= b\n? c\n: d\n, e\n|| f\nin g\ninstanceof h")
         (codes "a=b?c:d,e||f in g instanceof h;\n") }
     ensures changes_do_not { row.Reads Source (codes "a\n++ b\n-- c") (codes "a;++b;--c;\n") }
     ensures behind_a_change { row.Reads Source (codes "a ++\n( b )\na --\n[ c ]")
@@ -213,7 +223,8 @@ pub fn semicolons()
         (codes "var a=b(c),d=e+f;\n") }
     ensures behind_do { row.Reads Source (codes "do ; while ( a )\n( b )\ndo ; while ( c )\n+ d")
         (codes "do;while(a);b;do;while(c);+d;\n") }
-    ensures behind_labels { row.Reads Source (codes "a : while ( b ) { continue a\n( c )\nbreak a\n[ d ] }")
+    ensures behind_labels { row.Reads Source
+        (codes "a : while ( b ) { continue a\n( c )\nbreak a\n[ d ] }")
         (codes "a:while(b){continue a;c;break a;[d];}\n") }
     ensures written_on_the_next_line { row.Reads Source (codes "a\n; b") (codes "a;b;\n") }
     ensures written_behind_labels { row.Reads Source (codes "a : { break a\n; }")
@@ -223,9 +234,11 @@ pub fn semicolons()
     ensures written_behind_names { row.Reads Source (codes "var a\n;") (codes "var a;\n") }
     ensures jumps_end_at_once { row.Reads Source (codes "while ( a ) { continue\n; break\n; }")
         (codes "while(a){continue;;break;;}\n") }
-    ensures jumps_have_labels_on_their_line { row.Reads Source (codes "b : while ( a ) { continue\nb ; break\nb ; }")
+    ensures jumps_have_labels_on_their_line { row.Reads Source
+        (codes "b : while ( a ) { continue\nb ; break\nb ; }")
         (codes "b:while(a){continue;b;break;b;}\n") }
-    ensures returns_end_at_once { row.Reads Source (codes "function f ( ) { return\n; return\na ; return\n( b ) }")
+    ensures returns_end_at_once { row.Reads Source
+        (codes "function f ( ) { return\n; return\na ; return\n( b ) }")
         (codes "function f(){return;;return;a;return;b;}\n") }
     ensures returned_on_two_lines { row.Reads Source (codes "function f ( ) { return a\n+ b }")
         (codes "function f(){return a+b;}\n") }

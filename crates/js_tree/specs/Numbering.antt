@@ -1,6 +1,6 @@
 -- The numbers of functions: 1, 2, .. over the scripts in order, by the place of a function's first
--- token. A function's first token is its word `function`, so a function comes before those inside it,
--- and these come in the order of the text.
+-- token. A function's first token is its word `function`, so a function comes before those inside
+-- it, and these come in the order of the text.
 use Rattle.std.specs.Prelude.{◌≡◌, ℕ, ◌+◌, Bool, ◌&&◌, nat_le, List, [], ◌∷◌, ◌++◌}
 use Rattle.js_tree.specs.Tree
 

@@ -150,19 +150,22 @@ var_item_level v = record { name = v.name; value = maybe_expr v.value }
 
 abbrev pub expr : Expr → plain.Expr
 expr =
-    fold-Expr plain.Expr plain.ForInit plain.ForTarget plain.Stmt CasePart plain.Func PairPart VarPart
+    fold-Expr plain.Expr plain.ForInit plain.ForTarget plain.Stmt CasePart plain.Func PairPart
+    VarPart
     expr_level for_init_level for_target_level stmt_level case_level func_level pair_level
     var_item_level
 
 abbrev pub stmt : Stmt → plain.Stmt
 stmt =
-    fold-Stmt plain.Expr plain.ForInit plain.ForTarget plain.Stmt CasePart plain.Func PairPart VarPart
+    fold-Stmt plain.Expr plain.ForInit plain.ForTarget plain.Stmt CasePart plain.Func PairPart
+    VarPart
     expr_level for_init_level for_target_level stmt_level case_level func_level pair_level
     var_item_level
 
 abbrev pub func : Func → plain.Func
 func =
-    fold-Func plain.Expr plain.ForInit plain.ForTarget plain.Stmt CasePart plain.Func PairPart VarPart
+    fold-Func plain.Expr plain.ForInit plain.ForTarget plain.Stmt CasePart plain.Func PairPart
+    VarPart
     expr_level for_init_level for_target_level stmt_level case_level func_level pair_level
     var_item_level
 

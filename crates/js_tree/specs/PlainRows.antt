@@ -1,5 +1,5 @@
 -- One node of each kind as it is declared, and what its plain tree is.
-use Rattle.std.specs.Prelude.{ℕ, true, List, [], ◌∷◌, codes, Option, Some, None}
+use Rattle.std.specs.Prelude.{true, List, [], ◌∷◌, codes, Some, None}
 use Rattle.js_tree.specs.declared.tree.BinaryOp.TheVariants.{Subtract}
 use Rattle.js_tree.specs.declared.tree.PrefixOp.TheVariants.{Minus}
 use Rattle.js_tree.specs.declared.tree.PostfixOp.TheVariants.{Decrement}
@@ -177,7 +177,8 @@ abbrev pub plain_first_parts : List ForInit
 plain_first_parts = tree.Nothing ∷ tree.Vars two_items ∷ tree.First a ∷ []
 
 abbrev pub targets : List (ForTarget-F Expr ForInit ForTarget Stmt CasePart Func PairPart VarPart)
-targets = ForTarget-F.«ForTarget::Var» item ∷ ForTarget-F.«ForTarget::Var» bare_item ∷ ForTarget-F.Target a ∷ []
+targets = ForTarget-F.«ForTarget::Var» item ∷ ForTarget-F.«ForTarget::Var» bare_item
+    ∷ ForTarget-F.Target a ∷ []
 
 abbrev pub plain_targets : List ForTarget
 plain_targets = tree.AVar x (tree.AnExpr a) ∷ tree.AVar y tree.NoExpr ∷ tree.Target a ∷ []
@@ -189,10 +190,18 @@ abbrev pub open_default : Case-F Expr ForInit ForTarget Stmt CasePart Func PairP
 open_default = record { test = None; body = [] }
 
 abbrev pub open_code : Func-F Expr ForInit ForTarget Stmt CasePart Func PairPart VarPart
-open_code = record { number = 6; name = Some x; formals = y ∷ []; body = then ∷ other ∷ []; role = Stub }
+open_code = record {
+  number = 6;
+  name = Some x;
+  formals = y ∷ [];
+  body = then ∷ other ∷ [];
+  role =
+      Stub;
+}
 
 abbrev pub plain_code : Func
-plain_code = tree.Code 6 (Some x) (y ∷ []) (tree.MoreStmts then (tree.MoreStmts other tree.NoStmts)) Stub
+plain_code = tree.Code 6 (Some x) (y ∷ []) (tree.MoreStmts then (tree.MoreStmts other tree.NoStmts))
+    Stub
 
 abbrev pub open_pair : Pair-F Expr ForInit ForTarget Stmt CasePart Func PairPart VarPart
 open_pair = record { key = x; value = a }

@@ -1,10 +1,11 @@
--- Small trees, one for each kind of node that has others in it, in the order of the text: what is defined on trees is computed on them.
+-- Small trees, one for each kind of node that has others in it, in the order of the text: what is
+-- defined on trees is computed on them.
 use Rattle.std.specs.Prelude.{ℕ, true, List, [], ◌∷◌, map, replicate, codes, Some, None}
 use Rattle.js_tree.specs.declared.tree.BinaryOp.TheVariants.{Add}
 use Rattle.js_tree.specs.declared.tree.PrefixOp.TheVariants.{Not}
 use Rattle.js_tree.specs.declared.tree.PostfixOp.TheVariants.{Increment}
 use Rattle.js_tree.specs.declared.tree.Role.TheVariants.{Plain}
-use Rattle.js_tree.specs.Tree.{Name, Expr, MaybeExpr, Stmt, Stmts, Func, Script}
+use Rattle.js_tree.specs.Tree.{Name, Expr, Stmt, Stmts, Func, Script}
 use Rattle.js_tree.specs.Tree as tree
 use Rattle.js_tree.specs.Numbering.{in_expr, in_stmt, number_of}
 
@@ -46,7 +47,8 @@ two_cases b c d =
 
 -- the expressions with none in them
 abbrev pub leaves : List Expr
-leaves = tree.Num 1 ∷ tree.Str x ∷ tree.Truth true ∷ tree.Null ∷ tree.This ∷ tree.Ident x ∷ tree.Late 1 ∷ []
+leaves = tree.Num 1 ∷ tree.Str x ∷ tree.Truth true ∷ tree.Null ∷ tree.This ∷ tree.Ident x
+    ∷ tree.Late 1 ∷ []
 
 -- those with others in them
 abbrev pub expressions : Expr → Expr → Expr → List Expr
@@ -123,7 +125,9 @@ no_numbers n = replicate n []
 
 -- functions in one another
 abbrev pub nested : Expr
-nested = tree.Function (numbered 7 (two_statements (tree.Function (numbered 8 (tree.MoreStmts (tree.Do (function 9)) tree.NoStmts))) tree.Null))
+nested = tree.Function (numbered 7 (two_statements
+    (tree.Function (numbered 8 (tree.MoreStmts (tree.Do (function 9)) tree.NoStmts)))
+    tree.Null))
 
 abbrev pub one_number : List ℕ
 one_number = 1 ∷ []

@@ -1,4 +1,5 @@
-//! Small trees: these calls do nothing, and each says what is defined on trees, computed on one of each kind of node.
+//! Small trees: these calls do nothing, and each says what is defined on trees, computed on one of
+//! each kind of node.
 
 ghost use Rattle.std.specs.Prelude.{◌≡◌, [], ◌∷◌, map};
 ghost use Rattle.js_tree.specs.Plain.{case_level, expr_level, for_init_level, for_target_level};
@@ -24,9 +25,11 @@ pub fn plain_nodes()
 /// The functions in a tree stand in the order of the text, each before those in it.
 pub fn functions_in_trees()
     ensures in_leaves { map small.numbers_in small.leaves ≡ small.no_numbers 7 }
-    ensures in_expressions { map small.numbers_in (small.expressions (small.function 1) (small.function 2) (small.function 3))
+    ensures in_expressions { map small.numbers_in
+        (small.expressions (small.function 1) (small.function 2) (small.function 3))
         ≡ small.expression_numbers }
-    ensures in_bare_statements { map small.statement_numbers small.bare_statements ≡ small.no_numbers 7 }
+    ensures in_bare_statements { map small.statement_numbers small.bare_statements
+        ≡ small.no_numbers 7 }
     ensures in_statements { map small.statement_numbers
         (small.statements
         (small.function 1) (small.function 2) (small.function 3) (small.function 4))
@@ -38,7 +41,8 @@ pub fn functions_in_trees()
 pub fn numbered_scripts()
     ensures none { IsNumbered [] }
     ensures one { IsNumbered (small.script_of 1 ∷ []) }
-    ensures over_scripts { IsNumbered (small.script_of 1 ∷ small.script_of 2 ∷ small.script_of 3 ∷ []) }
+    ensures over_scripts { IsNumbered
+        (small.script_of 1 ∷ small.script_of 2 ∷ small.script_of 3 ∷ []) }
     ensures not_from_zero { IsNumbered (small.script_of 0 ∷ []) → ⊥ }
     ensures not_from_two { IsNumbered (small.script_of 2 ∷ []) → ⊥ }
     ensures no_number_twice { IsNumbered (small.script_of 1 ∷ small.script_of 1 ∷ []) → ⊥ }

@@ -58,9 +58,9 @@ pub breaks : Reads Source (codes "do break ; while ( a ) ; while ( a ) break ; f
 unfolding unicode_ident utf16_chars digits
 breaks = reads_as Source (codes "do break ; while ( a ) ; while ( a ) break ; for ( ; ; ) break ; for ( a in b ) break ; switch ( a ) { case 1 : break ; default : break }") (Tree.MoreStmts (Tree.DoWhile (Tree.Break None) (Tree.Ident (codes "a"))) (Tree.MoreStmts (Tree.While (Tree.Ident (codes "a")) (Tree.Break None)) (Tree.MoreStmts (Tree.For Tree.Nothing Tree.NoExpr Tree.NoExpr (Tree.Break None)) (Tree.MoreStmts (Tree.ForIn (Tree.Target (Tree.Ident (codes "a"))) (Tree.Ident (codes "b")) (Tree.Break None)) (Tree.MoreStmts (Tree.Switch (Tree.Ident (codes "a")) (Tree.MoreCases (Tree.AnExpr (Tree.Num 1)) (Tree.MoreStmts (Tree.Break None) Tree.NoStmts) (Tree.MoreCases Tree.NoExpr (Tree.MoreStmts (Tree.Break None) Tree.NoStmts) Tree.NoCases))) Tree.NoStmts))))) (word w.Do false ∷ word w.Break false ∷ mark m.Semicolon false ∷ word w.While false ∷ mark m.OpenParenthesis false ∷ name (codes "a") false ∷ mark m.CloseParenthesis false ∷ mark m.Semicolon false ∷ word w.While false ∷ mark m.OpenParenthesis false ∷ name (codes "a") false ∷ mark m.CloseParenthesis false ∷ word w.Break false ∷ mark m.Semicolon false ∷ word w.For false ∷ mark m.OpenParenthesis false ∷ mark m.Semicolon false ∷ mark m.Semicolon false ∷ mark m.CloseParenthesis false ∷ word w.Break false ∷ mark m.Semicolon false ∷ word w.For false ∷ mark m.OpenParenthesis false ∷ name (codes "a") false ∷ word w.In false ∷ name (codes "b") false ∷ mark m.CloseParenthesis false ∷ word w.Break false ∷ mark m.Semicolon false ∷ word w.Switch false ∷ mark m.OpenParenthesis false ∷ name (codes "a") false ∷ mark m.CloseParenthesis false ∷ mark m.OpenBrace false ∷ word w.Case false ∷ number 1 false ∷ mark m.Colon false ∷ word w.Break false ∷ mark m.Semicolon false ∷ word w.Default false ∷ mark m.Colon false ∷ word w.Break false ∷ mark m.CloseBrace false ∷ []) refl (g.source_and (g.statement (g.do_while false false false false (g.break false refl e.semicolon) (g.identifier false (lit≤ tt) refl) (e.written false))) (g.source_and (g.statement (g.while false false false (g.identifier false (lit≤ tt) refl) (g.break false refl e.semicolon))) (g.source_and (g.statement (g.for false false false false false g.nothing_first g.absent g.absent (g.break false refl e.semicolon))) (g.source_and (g.statement (g.for_in false false false false (g.identifier false (lit≤ tt) refl) refl (g.identifier false (lit≤ tt) refl) (g.break false refl e.semicolon))) (g.source_and (g.statement (g.switch false false false false false (g.identifier false (lit≤ tt) refl) (g.case_and false false (g.numeral true false (lit≤ tt)) (g.statement_and (g.break false refl e.semicolon) g.no_statement) (g.default_and false false (g.statement_and (g.break false refl (e.before_brace refl)) g.no_statement) g.no_clause)))) g.no_source))))) (record { few = lit≤ tt; low = lit≤ tt; flat = lit≤ tt; closed = lit≤ tt }) refl
 
-pub breaks_inside : Reads Source (codes "switch ( a ) { case 1 : { if ( b ) break ; try { break } finally { break } while ( c ) break ; c : break } }") (codes "switch(a){case 1:{if(b)break;try{break;}finally{break;}while(c)break;c:break;}}\n")
+pub breaks_inside : Reads Source (codes "switch ( a ) { case 1 : { if ( b ) break ; try { break } finally { break } c : break } }") (codes "switch(a){case 1:{if(b)break;try{break;}finally{break;}c:break;}}\n")
 unfolding unicode_ident utf16_chars digits
-breaks_inside = reads_as Source (codes "switch ( a ) { case 1 : { if ( b ) break ; try { break } finally { break } while ( c ) break ; c : break } }") (Tree.MoreStmts (Tree.Switch (Tree.Ident (codes "a")) (Tree.MoreCases (Tree.AnExpr (Tree.Num 1)) (Tree.MoreStmts (Tree.Block (Tree.MoreStmts (Tree.If (Tree.Ident (codes "b")) (Tree.Break None) Tree.NoStmt) (Tree.MoreStmts (Tree.Try (Tree.Block (Tree.MoreStmts (Tree.Break None) Tree.NoStmts)) Tree.NoHandler (Tree.AStmt (Tree.Block (Tree.MoreStmts (Tree.Break None) Tree.NoStmts)))) (Tree.MoreStmts (Tree.While (Tree.Ident (codes "c")) (Tree.Break None)) (Tree.MoreStmts (Tree.Label (codes "c") (Tree.Break None)) Tree.NoStmts))))) Tree.NoStmts) Tree.NoCases)) Tree.NoStmts) (word w.Switch false ∷ mark m.OpenParenthesis false ∷ name (codes "a") false ∷ mark m.CloseParenthesis false ∷ mark m.OpenBrace false ∷ word w.Case false ∷ number 1 false ∷ mark m.Colon false ∷ mark m.OpenBrace false ∷ word w.If false ∷ mark m.OpenParenthesis false ∷ name (codes "b") false ∷ mark m.CloseParenthesis false ∷ word w.Break false ∷ mark m.Semicolon false ∷ word w.Try false ∷ mark m.OpenBrace false ∷ word w.Break false ∷ mark m.CloseBrace false ∷ word w.Finally false ∷ mark m.OpenBrace false ∷ word w.Break false ∷ mark m.CloseBrace false ∷ word w.While false ∷ mark m.OpenParenthesis false ∷ name (codes "c") false ∷ mark m.CloseParenthesis false ∷ word w.Break false ∷ mark m.Semicolon false ∷ name (codes "c") false ∷ mark m.Colon false ∷ word w.Break false ∷ mark m.CloseBrace false ∷ mark m.CloseBrace false ∷ []) refl (g.source_and (g.statement (g.switch false false false false false (g.identifier false (lit≤ tt) refl) (g.case_and false false (g.numeral true false (lit≤ tt)) (g.statement_and (g.block (g.braces false false (g.statement_and (g.if false false false (g.identifier false (lit≤ tt) refl) (g.break false refl e.semicolon) (λ e. cc)) (g.statement_and (g.try_finally false false (g.braces false false (g.statement_and (g.break false refl (e.before_brace refl)) g.no_statement)) (g.braces false false (g.statement_and (g.break false refl (e.before_brace refl)) g.no_statement))) (g.statement_and (g.while false false false (g.identifier false (lit≤ tt) refl) (g.break false refl e.semicolon)) (g.statement_and (g.label false false refl refl (g.break false refl (e.before_brace refl))) g.no_statement)))))) g.no_statement) g.no_clause))) g.no_source) (record { few = lit≤ tt; low = lit≤ tt; flat = lit≤ tt; closed = lit≤ tt }) refl
+breaks_inside = reads_as Source (codes "switch ( a ) { case 1 : { if ( b ) break ; try { break } finally { break } c : break } }") (Tree.MoreStmts (Tree.Switch (Tree.Ident (codes "a")) (Tree.MoreCases (Tree.AnExpr (Tree.Num 1)) (Tree.MoreStmts (Tree.Block (Tree.MoreStmts (Tree.If (Tree.Ident (codes "b")) (Tree.Break None) Tree.NoStmt) (Tree.MoreStmts (Tree.Try (Tree.Block (Tree.MoreStmts (Tree.Break None) Tree.NoStmts)) Tree.NoHandler (Tree.AStmt (Tree.Block (Tree.MoreStmts (Tree.Break None) Tree.NoStmts)))) (Tree.MoreStmts (Tree.Label (codes "c") (Tree.Break None)) Tree.NoStmts)))) Tree.NoStmts) Tree.NoCases)) Tree.NoStmts) (word w.Switch false ∷ mark m.OpenParenthesis false ∷ name (codes "a") false ∷ mark m.CloseParenthesis false ∷ mark m.OpenBrace false ∷ word w.Case false ∷ number 1 false ∷ mark m.Colon false ∷ mark m.OpenBrace false ∷ word w.If false ∷ mark m.OpenParenthesis false ∷ name (codes "b") false ∷ mark m.CloseParenthesis false ∷ word w.Break false ∷ mark m.Semicolon false ∷ word w.Try false ∷ mark m.OpenBrace false ∷ word w.Break false ∷ mark m.CloseBrace false ∷ word w.Finally false ∷ mark m.OpenBrace false ∷ word w.Break false ∷ mark m.CloseBrace false ∷ name (codes "c") false ∷ mark m.Colon false ∷ word w.Break false ∷ mark m.CloseBrace false ∷ mark m.CloseBrace false ∷ []) refl (g.source_and (g.statement (g.switch false false false false false (g.identifier false (lit≤ tt) refl) (g.case_and false false (g.numeral true false (lit≤ tt)) (g.statement_and (g.block (g.braces false false (g.statement_and (g.if false false false (g.identifier false (lit≤ tt) refl) (g.break false refl e.semicolon) (λ e. cc)) (g.statement_and (g.try_finally false false (g.braces false false (g.statement_and (g.break false refl (e.before_brace refl)) g.no_statement)) (g.braces false false (g.statement_and (g.break false refl (e.before_brace refl)) g.no_statement))) (g.statement_and (g.label false false refl refl (g.break false refl (e.before_brace refl))) g.no_statement))))) g.no_statement) g.no_clause))) g.no_source) (record { few = lit≤ tt; low = lit≤ tt; flat = lit≤ tt; closed = lit≤ tt }) refl
 
 pub no_break : BreaksAt Source (codes "") (codes "break")
 no_break = breaks_at Source (codes "") (codes "break") (Tree.MoreStmts Tree.Empty Tree.NoStmts) (mark m.Semicolon false ∷ []) (mark m.Semicolon false ∷ []) (word w.Break false ∷ []) refl refl (g.source_and (g.statement (g.empty false)) g.no_source) (lit≤ tt) (λ others. refl)
