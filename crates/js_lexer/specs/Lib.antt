@@ -7,3 +7,4 @@ pub mod Position
 pub mod Names
 pub mod Laws
 pub mod Pieces
+pub mod FaultTexts

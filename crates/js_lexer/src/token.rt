@@ -68,15 +68,42 @@ pub enum LexError {
     OutOfMemory,
 }
 
+impl fmt::Display for LexKind {
+    ghost use Rattle.std.specs.Prelude.{Some};
+    ghost use Rattle.js_lexer.specs.FaultTexts.{kind_text};
+
+    ghost output = { λ kind. Some (kind_text kind) };
+
+    fn fmt<W: fmt::Write>(&self, f: &mut fmt::Formatter<W>) -> fmt::Result {
+        f.write_str(match self {
+            LexKind::Octal => "Octal",
+            LexKind::Fraction => "Fraction",
+            LexKind::Exponent => "Exponent",
+            LexKind::NumberTail => "NumberTail",
+            LexKind::WideNumber => "WideNumber",
+            LexKind::OpenString => "OpenString",
+            LexKind::BadEscape => "BadEscape",
+            LexKind::OpenComment => "OpenComment",
+            LexKind::NameEscape => "NameEscape",
+            LexKind::BadCharacter => "BadCharacter",
+        })
+    }
+}
+
 impl fmt::Display for LexError {
+    ghost use Rattle.std.specs.Prelude.{Some};
+    ghost use Rattle.js_lexer.specs.FaultTexts.{text_of};
+
+    ghost output = { λ error. Some (text_of error) };
+
     fn fmt<W: fmt::Write>(&self, f: &mut fmt::Formatter<W>) -> fmt::Result {
         match self {
             LexError::Lexical(place, kind) => {
                 let line = place.line;
                 let column = place.column;
-                write!(f, "{kind:?} at {line}:{column}")
+                write!(f, "{kind} at {line}:{column}")
             }
-            LexError::OutOfMemory => write!(f, "out of memory"),
+            LexError::OutOfMemory => f.write_str("out of memory"),
         }
     }
 }
