@@ -6,7 +6,7 @@ use Rattle.js_parser.specs.declared.first.FirstEntry.{FirstEntry}
 use Rattle.text_reader.specs.Gives.{IfRead, IsRead}
 use Rattle.js_parser.specs.First.{IsScriptOf, IsClusterOf}
 use Rattle.js_parser.specs.FirstReader.{read_script, read_cluster}
-use Rattle.js_parser.proofs.Laws.{read_script_sound, read_script_again, read_cluster_sound, read_cluster_again}
+use Rattle.js_parser.proofs.FirstLaws.{read_script_sound, read_script_again, read_cluster_sound, read_cluster_again}
 
 pub script_sound : {E : Type 0} (r : Result (Option FirstScript) E) (bs : List ℕ) → IfOk r (λ o. o ≡ read_script bs) → IfRead r (IsScriptOf bs)
 script_sound (Ok (Some s)) bs e = read_script_sound bs s (sym e)

@@ -1,3 +1,16 @@
+pub mod Symbols
+pub mod Operators
+pub mod Names
+pub mod Contexts
+pub mod Ends
+pub mod Grammar
+pub mod Bounds
+pub mod Heights
+pub mod Depth
+pub mod Accepted
+pub mod Fault
+pub mod WellPlaced
+pub mod Laws
 pub mod First
 pub mod FirstReader
 -- what the public clauses cite of the crate below

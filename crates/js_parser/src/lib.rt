@@ -1,17 +1,32 @@
-//! The parser: from the text of a script to its tree.
+//! The grammar of scripts (ES3 sections 11 to 14), and the parser of the first of its scripts.
 //!
-//! It stands on the trees of `js_tree` and on the readers of `text_reader`. So far it knows the
-//! first grammar alone, of statements that call a function or write a text, function declarations,
-//! stubs and entries. The layers above may know the grammar as `specs/First.antt` defines it, and
-//! that a text is read exactly where it is a text of that grammar: as `read_script` and
-//! `read_cluster` of `specs/FirstReader.antt` read it, of which the lemmas of `proofs/Laws.antt`
-//! say that they find just what has the text.
+//! `specs/Grammar.antt` says which tokens are a script with which tree, `specs/Accepted.antt` which
+//! scripts are accepted within limits, and `specs/Fault.antt` what may be told of a script that is
+//! not. The layers above may know these definitions, the types of `form` that they speak of, and
+//! the laws of `laws`.
+//!
+//! The code knows the first grammar alone so far, of statements that call a function or write a
+//! text, function declarations, stubs and entries, and stands on the readers of `text_reader`. The
+//! layers above may know this grammar as `specs/First.antt` defines it, and that a text is read
+//! exactly where it is a text of that grammar: as `read_script` and `read_cluster` of
+//! `specs/FirstReader.antt` read it, of which the lemmas of `proofs/FirstLaws.antt` say that they
+//! find just what has the text.
 #![tactic(auto)]
 
 mod first;
+mod form;
+mod laws;
 
 pub use first::{
     FirstBody, FirstEntries, FirstEntry, FirstFunction, FirstItem, FirstItems, FirstScript,
     FirstStatement, FirstStatements, clusters_read_back, parse_first, read_first_cluster,
     read_first_script, scripts_read_back,
+};
+pub use form::{Construct, Form, Limits};
+pub use laws::{
+    accepted_has_no_fault, brackets_are_closed, else_is_of_the_nearest_if, functions_are_counted,
+    have_tokens, in_is_in_parentheses, in_may_be_allowed, levels_go_down,
+    limits_break_in_a_statement, none_is_inserted_where_the_next_fits, one_breaking_token,
+    one_list_of_formals, one_tree, one_tree_of_a_token, scripts_do_not_break, targets_rise,
+    tokens_are_placed,
 };

@@ -1,4 +1,4 @@
-use Rattle.js_parser.proofs.Laws.{read_cluster_text, read_cluster_sound}
+use Rattle.js_parser.proofs.FirstLaws.{read_cluster_text, read_cluster_sound}
 use Rattle.js_parser.proofs.first.parse.clusters_read_back.Goals as goal
 
 pub returns : goal.returns

@@ -1,4 +1,4 @@
-use Rattle.js_parser.proofs.Laws.{read_script_text, read_script_sound}
+use Rattle.js_parser.proofs.FirstLaws.{read_script_text, read_script_sound}
 use Rattle.js_parser.proofs.first.parse.scripts_read_back.Goals as goal
 
 pub returns : goal.returns

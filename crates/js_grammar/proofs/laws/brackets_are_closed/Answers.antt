@@ -1,5 +1,0 @@
-use Rattle.js_grammar.proofs.Counts.{source_element}
-use Rattle.js_grammar.proofs.laws.brackets_are_closed.Goals as goal
-
-pub returns : goal.returns
-returns c form context u next s d n = (source_element d).closed n

@@ -1,5 +1,0 @@
-use Rattle.js_grammar.proofs.StatementEnds.{in_parentheses}
-use Rattle.js_grammar.proofs.laws.in_is_in_parentheses.Goals as goal
-
-pub returns : goal.returns
-returns c form l u x d is = in_parentheses form l u x d is

@@ -1,5 +1,0 @@
-use Rattle.js_grammar.proofs.Levels.{widen}
-use Rattle.js_grammar.proofs.laws.in_may_be_allowed.Goals as goal
-
-pub returns : goal.returns
-returns c form i l u x d = widen d

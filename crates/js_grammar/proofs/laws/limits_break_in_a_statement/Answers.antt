@@ -1,5 +1,0 @@
-use Rattle.js_grammar.proofs.BrokenLimits.{somewhere}
-use Rattle.js_grammar.proofs.laws.limits_break_in_a_statement.Goals as goal
-
-pub returns : goal.returns
-returns c form limits tokens tree h away = somewhere form limits tokens tree h away

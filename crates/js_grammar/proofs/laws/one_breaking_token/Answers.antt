@@ -1,5 +1,0 @@
-use Rattle.js_grammar.proofs.BreakingTokens.{one_breaking}
-use Rattle.js_grammar.proofs.laws.one_breaking_token.Goals as goal
-
-pub returns : goal.returns
-returns c form functions tokens used others token other a b = one_breaking form functions tokens used others token other a b

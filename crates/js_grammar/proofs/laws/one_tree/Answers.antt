@@ -1,5 +1,0 @@
-use Rattle.js_grammar.proofs.OneTree.{one_tree}
-use Rattle.js_grammar.proofs.laws.one_tree.Goals as goal
-
-pub returns : goal.returns
-returns c form tokens tree other d e = one_tree form tokens tree other d e

@@ -1,5 +1,0 @@
-use Rattle.js_grammar.proofs.SingleTokens.{one_tree}
-use Rattle.js_grammar.proofs.laws.one_tree_of_a_token.Goals as goal
-
-pub returns : goal.returns
-returns c form i j l o s x y d e = one_tree d e

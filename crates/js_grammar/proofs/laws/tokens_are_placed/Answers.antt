@@ -1,5 +1,0 @@
-use Rattle.js_grammar.proofs.TokenPlaces.{begun}
-use Rattle.js_grammar.proofs.laws.tokens_are_placed.Goals as goal
-
-pub returns : goal.returns
-returns c form functions used h = begun form functions used h
