@@ -1,5 +1,5 @@
 -- What shows a row by texts.
-use Rattle.std.proofs.Common.{◌≡◌, ℕ, ◌≤◌, false, List, [], ◌∷◌, ◌++◌, refl, sym, subst}
+use Rattle.std.proofs.Common.{◌≡◌, ℕ, ◌≤◌, true, false, List, [], ◌∷◌, ◌++◌, refl, sym, subst}
 use Rattle.js_tree.specs.Tree.{Script}
 use Rattle.js_parser.specs.declared.form.Form.{Form}
 use Rattle.js_parser.specs.Symbols.{Symbols, end}
@@ -10,9 +10,9 @@ use Rattle.js_parser.specs.Accepted.{Accepted, IsUnlimited, functions_in, most_o
 use Rattle.js_parser.specs.Fault.{Begins}
 use Rattle.grammar_rows.specs.PrintedText.{script_text}
 use Rattle.grammar_rows.specs.TextRows.{IsOf, Reads, Same, BreaksAt, tokens, limits_of}
-use Rattle.js_parser.proofs.Machine as mc
-use Rattle.js_parser.proofs.Machine.{stuck}
-use Rattle.js_parser.proofs.OneTree.{never}
+use Rattle.js_parser.specs.Rooms.{unbounded}
+use Rattle.js_parser.specs.Machine.{run, script}
+use Rattle.js_parser.proofs.OneTree.{is_stuck, never}
 
 -- the limits of a text
 pub record Within (form : Form) (all : Symbols) (tree : Script) : Type 0 where
@@ -42,7 +42,7 @@ same_tree form text other tree u v e f d w c z = record { tree = tree; accepted 
 -- the tokens w of a script that the text begins, and those v that the machine is stuck at
 pub breaks_at : (form : Form) (text token : List ℕ) (tree : Script) (more w v : Symbols) → tokens text ++ (more ++ (end false ∷ [])) ≡ w ++ (end false ∷ [])
     → tokens text ++ tokens token ≡ v → SourceElements form context.script w (end false) tree → functions_in (w ++ (end false ∷ [])) ≤ (limits_of form).functions
-    → ((others : Symbols) → mc.run form 200 (mc.script (v ++ others)) ≡ stuck) → BreaksAt form text token
+    → ((others : Symbols) → is_stuck (run form 200 (script unbounded (v ++ others))) ≡ true) → BreaksAt form text token
 breaks_at form text token tree more w v e f d few h = record {
   begins = record {
     more = more ++ (end false ∷ []);

@@ -1,5 +1,5 @@
 -- What holds of every expression, statement and script of the grammar.
-use Rattle.std.specs.Prelude.{ℕ, ◌≡◌, ◌≢◌, ◌≤◌, ◌||◌, Bool, true, false, List, [], ◌∷◌, length}
+use Rattle.std.specs.Prelude.{ℕ, ◌≡◌, ◌≢◌, ◌≤◌, ◌||◌, Bool, true, false, List, [], ◌∷◌, ◌++◌, length}
 use Rattle.js_lexer.specs.declared.mark.Mark.TheVariants as m
 use Rattle.js_lexer.specs.declared.word.Word.TheVariants as w
 use Rattle.js_lexer.specs.declared.token.TokenKind.{TokenKind}
@@ -18,6 +18,9 @@ use Rattle.js_parser.specs.Accepted.{Accepted, Derives, IsOverAt, IsUnlimited, K
 use Rattle.js_parser.specs.Fault.{Begins, Breaks, Fault, Answer}
 use Rattle.js_parser.specs.declared.form.Limits.{Limits}
 use Rattle.js_parser.specs.WellPlaced.{are_placed}
+use Rattle.js_parser.specs.Depth.{depth, nesting}
+use Rattle.js_parser.specs.Rooms.{unbounded, of_limits}
+use Rattle.js_parser.specs.Machine.{Goes, script, done, stuck, deep}
 
 -- an expression of a level is one of each lower level
 abbrev pub LevelsGoDown : Type 0
@@ -183,3 +186,42 @@ LimitsBreakInAStatement =
     (form : Form) (limits : Limits) (tokens : Symbols) (tree : Script)
     → IsUnlimited form limits.functions tokens tree → (Keeps limits tokens tree → ⊥)
     → (n : ℕ) × IsOverAt form limits tokens n
+
+-- The machine reads each script to its end and finds its tree, where the limits of depth and
+-- nesting leave room for it.
+abbrev pub ScriptsAreRead : Type 0
+ScriptsAreRead =
+    (form : Form) (tokens : Symbols) (tree : Script) → Derives form tokens tree → (limits : Limits)
+    → depth tree ≤ limits.depth → nesting tree ≤ limits.nesting
+    → Goes form (script (of_limits limits) tokens) (done tree)
+
+-- Where there is no limit it reads each.
+abbrev pub ScriptsAreReadUnbounded : Type 0
+ScriptsAreReadUnbounded =
+    (form : Form) (tokens : Symbols) (tree : Script) → Derives form tokens tree
+    → Goes form (script unbounded tokens) (done tree)
+
+-- The tree with which the machine is done, for a list of tokens within limits, is derived from
+-- them, and keeps the limits of depth and nesting.
+abbrev pub WhatIsReadIsAScript : Type 0
+WhatIsReadIsAScript =
+    (form : Form) (limits : Limits) (tokens : List Token) (tree : Script)
+    → Goes form (script (of_limits limits) (symbols tokens)) (done tree)
+    → Derives form (symbols tokens) tree × (depth tree ≤ limits.depth)
+    × (nesting tree ≤ limits.nesting)
+
+-- Where the machine is stuck at a token, no script begins with that token behind those before it.
+abbrev pub NoScriptGoesOnWhereItIsStuck : Type 0
+NoScriptGoesOnWhereItIsStuck =
+    (form : Form) (limits : Limits) (used : Symbols) (token : Symbol) (rest : Symbols)
+    → Goes form (script (of_limits limits) (used ++ (token ∷ rest))) (stuck (token ∷ rest))
+    → (functions : ℕ) → Begins form functions (used ++ (token ∷ [])) → ⊥
+
+-- Where it has no room before a token, each script that begins with that token behind those before
+-- it is too deep or nests its functions too deep.
+abbrev pub NoScriptKeepsTheLimitsWhereItIsDeep : Type 0
+NoScriptKeepsTheLimitsWhereItIsDeep =
+    (form : Form) (limits : Limits) (used : Symbols) (token : Symbol) (rest : Symbols)
+    → Goes form (script (of_limits limits) (used ++ (token ∷ rest))) (deep (token ∷ rest))
+    → (more : Symbols) (tree : Script) → Derives form (used ++ (token ∷ more)) tree
+    → depth tree ≤ limits.depth → nesting tree ≤ limits.nesting → ⊥

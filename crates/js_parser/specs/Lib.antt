@@ -11,6 +11,11 @@ pub mod Accepted
 pub mod Fault
 pub mod WellPlaced
 pub mod Laws
+pub mod Rooms
+pub mod States
+pub mod ReadExpressions
+pub mod ReadStatements
+pub mod Machine
 pub mod First
 pub mod FirstReader
 -- what the public clauses cite of the crate below

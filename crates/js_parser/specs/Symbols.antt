@@ -1,6 +1,6 @@
 -- Tokens without their places: what a token is, whether a line terminator stands before it, and
 -- whether it is a number in other than decimal digits. The grammar knows no more of a token.
-use Rattle.std.specs.Prelude.{ℕ, ◌-◌, ◌==◌, Bool, true, List, [], ◌∷◌, length, map}
+use Rattle.std.specs.Prelude.{ℕ, ◌-◌, ◌==◌, ◌&&◌, Bool, true, List, [], ◌∷◌, length, map}
 use Rattle.std.specs.Fmt.{decimal}
 use Rattle.js_lexer.specs.declared.mark.Mark.{Mark}
 use Rattle.js_lexer.specs.declared.word.Word.{Word}
@@ -32,6 +32,15 @@ symbol t = record {
 
 abbrev pub symbols : List Token → Symbols
 symbols = map symbol
+
+-- each symbol that is no number counts as in decimal
+abbrev pub is_regular : TokenKind → Bool → Bool
+is_regular (k.Number n) in_decimal = true
+is_regular _ in_decimal = in_decimal
+
+abbrev pub are_regular : Symbols → Bool
+are_regular [] = true
+are_regular (s ∷ ss) = is_regular s.kind s.in_decimal && are_regular ss
 
 -- each kind of symbol, behind a line terminator or not
 

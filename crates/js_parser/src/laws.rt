@@ -91,3 +91,26 @@ pub fn accepted_has_no_fault()
 pub fn limits_break_in_a_statement()
     ensures { law.LimitsBreakInAStatement }
 {}
+
+/// The machine of `specs/Machine.antt` reads each script to its end and finds its tree, where there
+/// is room for it.
+pub fn scripts_are_read()
+    ensures within_limits { law.ScriptsAreRead }
+    ensures without_limits { law.ScriptsAreReadUnbounded }
+{}
+
+/// What the machine reads of a list of tokens is a script of this tree, which keeps the limits of
+/// depth and nesting.
+pub fn what_is_read_is_a_script()
+    ensures { law.WhatIsReadIsAScript }
+{}
+
+/// Where the machine is stuck no script goes on, so that the token is the breaking one.
+pub fn no_script_goes_on_where_it_is_stuck()
+    ensures { law.NoScriptGoesOnWhereItIsStuck }
+{}
+
+/// Where the machine has no room each script that goes on breaks a limit.
+pub fn no_script_keeps_the_limits_where_it_is_deep()
+    ensures { law.NoScriptKeepsTheLimitsWhereItIsDeep }
+{}

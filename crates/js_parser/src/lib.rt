@@ -1,9 +1,11 @@
-//! The grammar of scripts (ES3 sections 11 to 14), and the parser of the first of its scripts.
+//! The grammar of scripts (ES3 sections 11 to 14), how scripts are read, and the parser of the first
+//! of them.
 //!
 //! `specs/Grammar.antt` says which tokens are a script with which tree, `specs/Accepted.antt` which
 //! scripts are accepted within limits, and `specs/Fault.antt` what may be told of a script that is
-//! not. The layers above may know these definitions, the types of `form` that they speak of, and
-//! the laws of `laws`.
+//! not. `specs/Machine.antt` reads tokens from the left, within limits, and the laws of `laws` say
+//! that it reads just the scripts. The layers above may know the grammar, what is accepted and
+//! told, the types of `form` that these speak of, and the laws.
 //!
 //! The code knows the first grammar alone so far, of statements that call a function or write a
 //! text, function declarations, stubs and entries, and stands on the readers of `text_reader`. The
@@ -26,7 +28,8 @@ pub use form::{Construct, Form, Limits};
 pub use laws::{
     accepted_has_no_fault, brackets_are_closed, else_is_of_the_nearest_if, functions_are_counted,
     have_tokens, in_is_in_parentheses, in_may_be_allowed, levels_go_down,
-    limits_break_in_a_statement, none_is_inserted_where_the_next_fits, one_breaking_token,
-    one_list_of_formals, one_tree, one_tree_of_a_token, scripts_do_not_break, targets_rise,
-    tokens_are_placed,
+    limits_break_in_a_statement, no_script_goes_on_where_it_is_stuck,
+    no_script_keeps_the_limits_where_it_is_deep, none_is_inserted_where_the_next_fits,
+    one_breaking_token, one_list_of_formals, one_tree, one_tree_of_a_token, scripts_are_read,
+    scripts_do_not_break, targets_rise, tokens_are_placed, what_is_read_is_a_script,
 };
