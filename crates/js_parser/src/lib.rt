@@ -1,5 +1,5 @@
-//! The grammar of scripts (ES3 sections 11 to 14), how scripts are read, and the parser of the first
-//! of them.
+//! The grammar of scripts (ES3 sections 11 to 14), how scripts are read, and the parser of a
+//! first grammar.
 //!
 //! `specs/Grammar.antt` says which tokens are a script with which tree, `specs/Accepted.antt` which
 //! scripts are accepted within limits, and `specs/Fault.antt` what may be told of a script that is
