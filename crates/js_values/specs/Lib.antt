@@ -1,0 +1,12 @@
+pub mod Range
+pub mod Numbers
+pub mod Integers
+pub mod Numerals
+pub mod NumberTexts
+pub mod Reasons
+pub mod Values
+pub mod Equality
+pub mod Shown
+pub mod Rows
+pub mod Laws
+pub mod NumberGrammar
