@@ -42,7 +42,7 @@ nothing = record { functions = refl; closed = λ n. refl }
 plain : {s : Symbol} {v : Symbols} {fs : List Func} → IsPlain s.kind → Counts v fs → Counts (s ∷ v) fs
 plain {s = s} {v = v} p h = record { functions = p.counts (functions_in v) ∙ h.functions; closed = λ n. ap (λ a. open_behind a v) (p.opens n) ∙ h.closed n }
 
-functions-join : (u v : Symbols) → functions_in (u ++ v) ≡ functions_in u + functions_in v
+pub functions-join : (u v : Symbols) → functions_in (u ++ v) ≡ functions_in u + functions_in v
 functions-join [] v = omega arith
 functions-join (s ∷ u) v = ap (counted s.kind) (functions-join u v) ∙ counted-join s.kind (functions_in u) (functions_in v)
   where

@@ -1,5 +1,5 @@
 -- Two runs of the machine side by side, a step in an expression, a function or a declarator.
-use Rattle.std.proofs.Common.{if◌then◌else◌, ◌≡◌, ℕ, suc, nat_le, Bool, true, false, ◌&&◌, List, [], ◌∷◌, ◌++◌, Option, Some, None, refl}
+use Rattle.std.proofs.Common.{if◌then◌else◌, ℕ, nat_le, Bool, true, false, ◌&&◌, List, Option, Some, None, refl}
 use Rattle.js_lexer.specs.declared.mark.Mark.TheVariants as m
 use Rattle.js_lexer.specs.declared.word.Word.TheVariants as w
 use Rattle.js_lexer.specs.declared.token.TokenKind.{TokenKind}
@@ -7,7 +7,7 @@ use Rattle.js_lexer.specs.declared.token.TokenKind.TheVariants as k
 use Rattle.js_tree.specs.declared.tree.BinaryOp.{BinaryOp}
 use Rattle.js_tree.specs.declared.tree.BinaryOp.TheVariants as b
 use Rattle.js_tree.specs.declared.tree.PrefixOp.{PrefixOp}
-use Rattle.js_tree.specs.Tree.{Name, Expr, Exprs, MaybeExpr, Elements, Pairs, Stmt, Stmts, VarItems, Cases}
+use Rattle.js_tree.specs.Tree.{Name, Expr, Exprs, MaybeExpr, Elements, Pairs, VarItems}
 use Rattle.js_tree.specs.Numbering.{is_function_number}
 use Rattle.js_parser.specs.declared.form.Form.{Form}
 use Rattle.js_parser.specs.declared.form.Form.TheVariants.{Source, Written}
@@ -17,7 +17,7 @@ use Rattle.js_parser.specs.Names.{is_eval, is_reference, is_binding, is_property
 use Rattle.js_parser.specs.Rooms.{Room, fits_node, fits_around, fits_function}
 use Rattle.js_parser.specs.Machine.{State, To, guard}
 use Rattle.js_parser.specs.Machine as mc
-use Rattle.js_parser.proofs.FrontsAlike.{Hole, Rooms, Alike, Good, Tail, Taken, stuck, good, on, kept, behind-it, after, passed, refused, guarded, inner, inmost, fits, reading, at-end, expected, comma-alike, comma-tail-alike, assign-alike, choice-alike, climb-alike, tail-alike, unary-alike, postfix-alike, operand-alike, links-alike, arguments-alike, argument-list-alike, elements-alike, pairs-alike, rest-alike, formals-alike, formal-alike, declarator-alike, declarators-alike}
+use Rattle.js_parser.proofs.FrontsAlike.{Hole, Rooms, Good, Tail, Taken, stuck, good, on, kept, behind-it, after, passed, refused, guarded, inner, inmost, fits, reading, at-end, expected, comma-alike, comma-tail-alike, assign-alike, climb-alike, tail-alike, unary-alike, postfix-alike, operand-alike, links-alike, arguments-alike, argument-list-alike, elements-alike, pairs-alike, rest-alike, formal-alike, declarators-alike}
 
 -- for each tree that is read
 abbrev pub Each : (h : Hole) (A : Type 0) → To A → To A → Type 0

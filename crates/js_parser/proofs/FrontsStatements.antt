@@ -1,10 +1,10 @@
 -- Two runs of the machine side by side, a step in a statement.
-use Rattle.std.proofs.Common.{◌≡◌, ◌≤◌, ◌<◌, Bool, true, false, ◌&&◌, ◌||◌, not, List, [], ◌∷◌, ◌++◌, Option, Some, None, length, refl, ap, sym, ◌∙◌, subst, arith}
+use Rattle.std.proofs.Common.{◌≡◌, ◌≤◌, ◌<◌, Bool, true, false, ◌&&◌, ◌||◌, not, List, [], ◌∷◌, Option, None, length, refl, ap, sym, ◌∙◌, subst, arith}
 use Rattle.js_lexer.specs.declared.mark.Mark.TheVariants as m
 use Rattle.js_lexer.specs.declared.word.Word.TheVariants as w
 use Rattle.js_lexer.specs.declared.token.TokenKind.{TokenKind}
 use Rattle.js_lexer.specs.declared.token.TokenKind.TheVariants as k
-use Rattle.js_tree.specs.Tree.{Name, Expr, MaybeExpr, Stmt, Stmts, VarItems, Cases, ForInit, Handler}
+use Rattle.js_tree.specs.Tree.{Name, Expr, MaybeExpr, Stmt, Stmts, Cases, ForInit, Handler}
 use Rattle.js_tree.specs.Tree
 use Rattle.js_parser.specs.declared.form.Form.{Form}
 use Rattle.js_parser.specs.Symbols.{Symbol, Symbols}
@@ -12,10 +12,10 @@ use Rattle.js_parser.specs.Operators.{is_target}
 use Rattle.js_parser.specs.Names.{is_eval, is_function_name, is_infinity, may_stand, is_reference, is_binding, is_among}
 use Rattle.js_parser.specs.Contexts.{Context}
 use Rattle.js_parser.specs.Contexts as context
-use Rattle.js_parser.specs.Rooms.{Room, inside, fits_node, fits_function}
+use Rattle.js_parser.specs.Rooms.{Room, fits_node, fits_function}
 use Rattle.js_parser.specs.Machine.{State, To}
 use Rattle.js_parser.specs.Machine as mc
-use Rattle.js_parser.proofs.FrontsAlike.{Hole, At, within, behind, Took, took_within, took_behind, Rooms, Alike, Good, Tail, Taken, done, stuck, lost, gone, later, good, on, kept, behind-it, after, passed, refused, guarded, inner, inmost, fits, reading, at-end, expected, ended-alike, at-once-alike, comma-alike, comma-tail-alike, choice-alike, tail-alike, postfix-alike, links-alike, rest-alike, declarator-alike, declarators-alike, optional-alike, statement-alike, list-alike, source-alike, clauses-alike}
+use Rattle.js_parser.proofs.FrontsAlike.{Hole, At, within, behind, Took, took_within, took_behind, Rooms, Alike, Good, Tail, Taken, done, stuck, lost, gone, later, on, kept, behind-it, after, passed, refused, guarded, inner, inmost, fits, reading, at-end, expected, ended-alike, at-once-alike, comma-alike, comma-tail-alike, choice-alike, tail-alike, postfix-alike, links-alike, rest-alike, declarator-alike, declarators-alike, optional-alike, statement-alike, list-alike, source-alike, clauses-alike}
 use Rattle.js_parser.proofs.FrontsExpressions.{Each, expects, node}
 
 stated : {h : Hole} {room free : Room} {next also : To Stmt} → Rooms h room free → Each h Stmt next also → Good h (mc.stated room next) (mc.stated free also)
@@ -94,19 +94,19 @@ thrown : {h : Hole} {room free : Room} {next also : To Stmt} → Rooms h room fr
 thrown {room = room} {free = free} {next = next} {also = also} r d =
     reading (mc.thrown room next) (mc.thrown free also) (stuck at-end) (λ s. guarded (not s.newline) (λ e. kept (comma-alike (inner r) (λ x. ended-alike (d _)))))
 
-finally-by : {h : Hole} {s : Symbol} {room free : Room} {next also : To Stmt} → Rooms h room free → (c : Context) (kind : TokenKind) (tried : Stmt) (handler : Handler) → Each h Stmt next also
-    → Taken h s (mc.finally_by room c kind tried handler next s) (mc.finally_by free c kind tried handler also s)
-finally-by r c (k.Word w.Finally) tried handler d = passed (block (inner r) c (λ last. d (Tree.Try tried handler (Tree.AStmt last))))
-finally-by r c _ tried handler d = kept (d _)
+finally-by : {h : Hole} {s : Symbol} {room free : Room} {next also : To Stmt} → Rooms h room free → (c : Context) (kind : TokenKind) (tried : Stmt) (caught : Handler) → Each h Stmt next also
+    → Taken h s (mc.finally_by room c kind tried caught next s) (mc.finally_by free c kind tried caught also s)
+finally-by r c (k.Word w.Finally) tried caught d = passed (block (inner r) c (λ last. d (Tree.Try tried caught (Tree.AStmt last))))
+finally-by r c _ tried caught d = kept (d _)
 
-after-catch : {h : Hole} {room free : Room} {next also : To Stmt} → Rooms h room free → (c : Context) (tried : Stmt) (handler : Handler) → Each h Stmt next also
-    → Good h (mc.after_catch room c tried handler next) (mc.after_catch free c tried handler also)
-after-catch {room = room} {free = free} {next = next} {also = also} r c tried handler d =
-    reading (mc.after_catch room c tried handler next) (mc.after_catch free c tried handler also) (on (d _) at-end) (λ s. finally-by r c s.kind tried handler d)
+after-catch : {h : Hole} {room free : Room} {next also : To Stmt} → Rooms h room free → (c : Context) (tried : Stmt) (caught : Handler) → Each h Stmt next also
+    → Good h (mc.after_catch room c tried caught next) (mc.after_catch free c tried caught also)
+after-catch {room = room} {free = free} {next = next} {also = also} r c tried caught d =
+    reading (mc.after_catch room c tried caught next) (mc.after_catch free c tried caught also) (on (d _) at-end) (λ s. finally-by r c s.kind tried caught d)
 
 catch-by : {h : Hole} {s : Symbol} {room free : Room} {next also : To Stmt} → (form : Form) → Rooms h room free → (c : Context) (kind : TokenKind) (tried : Stmt) → Each h Stmt next also
     → Taken h s (mc.catch_by form room c kind tried next s) (mc.catch_by form free c kind tried also s)
-catch-by form r c (k.Name n) tried d = guarded (is_binding form n) (λ e. passed (expects mc.is_close_parenthesis (block (inner r) c (λ handler. after-catch r c tried (Tree.ACatch n handler) d))))
+catch-by form r c (k.Name n) tried d = guarded (is_binding form n) (λ e. passed (expects mc.is_close_parenthesis (block (inner r) c (λ caught. after-catch r c tried (Tree.ACatch n caught) d))))
 catch-by form r c _ tried d = refused
 
 catch-name : {h : Hole} {room free : Room} {next also : To Stmt} → (form : Form) → Rooms h room free → (c : Context) (tried : Stmt) → Each h Stmt next also → Good h (mc.catch_name form room c tried next) (mc.catch_name form free c tried also)

@@ -1,16 +1,15 @@
 -- Where the machine is stuck, or has no room, it is so whatever stands behind.
-use Rattle.std.proofs.Common.{◌≡◌, ◌⊎◌, inl, inr, ℕ, suc, ◌≤◌, ◌<◌, Bool, true, false, List, [], ◌∷◌, ◌++◌, length, refl, ap, sym, ◌∙◌, subst, arith}
-use Rattle.std.proofs.lemmas.List.{append_assoc, append_cancel_right, append_cancel_left, length-append}
-use Rattle.js_tree.specs.Tree.{Name, Stmts}
+use Rattle.std.proofs.Common.{◌≡◌, ◌⊎◌, inl, inr, ◌≤◌, ◌<◌, Bool, true, false, [], ◌∷◌, ◌++◌, Some, length, refl, ap, sym, ◌∙◌, subst, arith}
+use Rattle.std.proofs.lemmas.List.{append_assoc, append_cancel_right}
 use Rattle.js_parser.specs.declared.form.Form.{Form}
-use Rattle.js_parser.specs.Symbols.{Symbol, Symbols}
-use Rattle.js_parser.specs.Operators.{Operator}
+use Rattle.js_lexer.specs.declared.mark.Mark.TheVariants as m
+use Rattle.js_parser.specs.Symbols.{Symbol, Symbols, name, mark, end}
+use Rattle.js_parser.proofs.Runs.{runs}
 use Rattle.js_parser.specs.Names.{key_of}
-use Rattle.js_parser.specs.Contexts as context
 use Rattle.js_parser.specs.Rooms.{Room, unbounded}
 use Rattle.js_parser.specs.Machine.{State, step, Goes, here, then_on, script}
 use Rattle.js_parser.specs.Machine as mc
-use Rattle.js_parser.proofs.FrontsAlike.{Hole, At, within, behind, Took, took_within, took_behind, Rooms, same_room, no_limit, Alike, Good, done, stuck, deep, lost, gone, later, on, inmost, reading, at-end, expected, behind-it}
+use Rattle.js_parser.proofs.FrontsAlike.{Hole, At, within, behind, Took, took_within, took_behind, Rooms, same_room, no_limit, Alike, done, stuck, deep, lost, gone, later, on, reading, at-end}
 use Rattle.js_parser.proofs.FrontsAlike as al
 use Rattle.js_parser.proofs.FrontsExpressions.{comma-by, choice-by, tail-by, unary-by, postfix-by, operand-by, links-by, arguments-by, after-argument, elements-by, pairs-by, formals-by, one-formal-by, declarator-by, after-declarator, optional-by, expects}
 use Rattle.js_parser.proofs.FrontsStatements.{colon_first, statement-by, list-by, source-by, clauses-by, finished-alike}
@@ -141,13 +140,13 @@ took-is (took_behind l) e = absurd cc
 start : (h : Hole) (room free : Room) (used : Symbols) → Rooms h room free → Alike h true (script room (used ++ h.rest)) (script free (used ++ h.other))
 start h room free used r = al.source r (within used) (λ ss. finished-alike ss)
 
--- The machine is stuck at a token whatever stands behind it, and without limits too.
-pub stays_stuck : (form : Form) (room : Room) (used : Symbols) (t : Symbol) (rest : Symbols) → Goes form (script room (used ++ (t ∷ rest))) (mc.stuck (t ∷ rest))
-    → (other : Symbols) → Goes form (script unbounded (used ++ (t ∷ other))) (mc.stuck (t ∷ other))
+-- with the same rooms, or without limits
+stuck-in : (form : Form) (room free : Room) (used : Symbols) (t : Symbol) (rest other : Symbols) → Rooms (record { form = form; same = false; rest = rest; other = other }) room free
+    → Goes form (script room (used ++ (t ∷ rest))) (mc.stuck (t ∷ rest)) → Goes form (script free (used ++ (t ∷ other))) (mc.stuck (t ∷ other))
 unfolding Verdict
-stays_stuck form room used t rest d other =
-    subst (λ ts. Goes form (script unbounded ts) (mc.stuck (t ∷ other))) (append_assoc used (t ∷ []) other)
-    (told (run-alike colons (subst (λ ts. Goes form (script room ts) (mc.stuck (t ∷ rest))) (sym (append_assoc used (t ∷ []) rest)) d) (start h room unbounded (used ++ (t ∷ [])) (no_limit refl))))
+stuck-in form room free used t rest other rooms d =
+    subst (λ ts. Goes form (script free ts) (mc.stuck (t ∷ other))) (append_assoc used (t ∷ []) other)
+    (told (run-alike colons (subst (λ ts. Goes form (script room ts) (mc.stuck (t ∷ rest))) (sym (append_assoc used (t ∷ []) rest)) d) (start h room free (used ++ (t ∷ [])) rooms)))
   where
     h : Hole
     h = record { form = form; same = false; rest = rest; other = other }
@@ -159,8 +158,18 @@ stays_stuck form room used t rest d other =
     by s (inl v) = let is = at-is v.1 refl in v.2 ∙ ap mc.stuck (is.2 ∙ ap (λ r. r ++ other) (append_cancel_right is.0 (t ∷ []) rest (sym is.1)))
     by s (inr l) = absurd (omega arith)
 
-    told : Beside h (mc.stuck (t ∷ rest)) (script unbounded ((used ++ (t ∷ [])) ++ other)) → Goes form (script unbounded ((used ++ (t ∷ [])) ++ other)) (mc.stuck (t ∷ other))
-    told b = subst (λ s. Goes form (script unbounded ((used ++ (t ∷ [])) ++ other)) s) (by b.place (verdict b.alike)) b.reached
+    told : Beside h (mc.stuck (t ∷ rest)) (script free ((used ++ (t ∷ [])) ++ other)) → Goes form (script free ((used ++ (t ∷ [])) ++ other)) (mc.stuck (t ∷ other))
+    told b = subst (λ s. Goes form (script free ((used ++ (t ∷ [])) ++ other)) s) (by b.place (verdict b.alike)) b.reached
+
+-- The machine is stuck at a token whatever stands behind it, and without limits too.
+pub stays_stuck : (form : Form) (room : Room) (used : Symbols) (t : Symbol) (rest : Symbols) → Goes form (script room (used ++ (t ∷ rest))) (mc.stuck (t ∷ rest))
+    → (other : Symbols) → Goes form (script unbounded (used ++ (t ∷ other))) (mc.stuck (t ∷ other))
+stays_stuck form room used t rest d other = stuck-in form room unbounded used t rest other (no_limit refl) d
+
+-- and with the same limits
+pub stays_stuck_there : (form : Form) (room : Room) (used : Symbols) (t : Symbol) (rest : Symbols) → Goes form (script room (used ++ (t ∷ rest))) (mc.stuck (t ∷ rest))
+    → (other : Symbols) → Goes form (script room (used ++ (t ∷ other))) (mc.stuck (t ∷ other))
+stays_stuck_there form room used t rest d other = stuck-in form room room used t rest other same_room d
 
 -- Where there is no room behind these tokens there is none whatever comes, but that a name may become a label by a colon.
 pub stays_deep : (form : Form) (room : Room) (used rest : Symbols) → Goes form (script room (used ++ rest)) (mc.deep rest)
@@ -183,3 +192,13 @@ stays_deep form room used rest d other colons = told (run-alike (λ e. colons) d
 pub stays_deep_before : (form : Form) (room : Room) (used : Symbols) (t : Symbol) (rest : Symbols) → Goes form (script room (used ++ (t ∷ rest))) (mc.deep (t ∷ rest))
     → (other : Symbols) → Goes form (script room (used ++ (t ∷ other))) (mc.deep (t ∷ other))
 stays_deep_before form room used t rest d other = stays_deep form room used (t ∷ rest) d (t ∷ other) refl
+
+-- A colon behind a name moves the place: in the least room `a` has none, and `a:` only a statement behind it.
+abbrev one : Room
+one = record { depth = Some 1; nesting = Some 1 }
+
+pub deep_at_a_name : (form : Form) (n : Bool) → Goes form (script one (name (98 ∷ []) n ∷ mark m.Semicolon n ∷ end n ∷ [])) (mc.deep (mark m.Semicolon n ∷ end n ∷ []))
+deep_at_a_name form n = runs form 8 (script one (name (98 ∷ []) n ∷ mark m.Semicolon n ∷ end n ∷ []))
+
+pub deep_behind_a_label : (form : Form) (n : Bool) → Goes form (script one (name (98 ∷ []) n ∷ mark m.Colon n ∷ mark m.Semicolon n ∷ end n ∷ [])) (mc.deep (end n ∷ []))
+deep_behind_a_label form n = runs form 4 (script one (name (98 ∷ []) n ∷ mark m.Colon n ∷ mark m.Semicolon n ∷ end n ∷ []))

@@ -38,4 +38,10 @@ pub mod FrontsAlike
 pub mod FrontsExpressions
 pub mod FrontsStatements
 pub mod FrontsStuck
+pub mod FrontsFinish
+pub mod FrontsFinishStatements
+pub mod FrontsReady
+pub mod FrontsReadyExpressions
+pub mod FrontsReadyStatements
+pub mod FrontsGoOn
 pub mod FrontsScripts

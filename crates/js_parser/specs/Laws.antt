@@ -1,5 +1,5 @@
 -- What holds of every expression, statement and script of the grammar.
-use Rattle.std.specs.Prelude.{ℕ, ◌≡◌, ◌≢◌, ◌≤◌, ◌||◌, Bool, true, false, List, [], ◌∷◌, ◌++◌, length}
+use Rattle.std.specs.Prelude.{ℕ, ◌≡◌, ◌≢◌, ◌≤◌, ◌||◌, ◌⊎◌, Bool, true, false, List, [], ◌∷◌, ◌++◌, length}
 use Rattle.js_lexer.specs.declared.mark.Mark.TheVariants as m
 use Rattle.js_lexer.specs.declared.word.Word.TheVariants as w
 use Rattle.js_lexer.specs.declared.token.TokenKind.{TokenKind}
@@ -210,12 +210,22 @@ WhatIsReadIsAScript =
     → Derives form (symbols tokens) tree × (depth tree ≤ limits.depth)
     × (nesting tree ≤ limits.nesting)
 
--- Where the machine is stuck at a token, no script begins with that token behind those before it.
-abbrev pub NoScriptGoesOnWhereItIsStuck : Type 0
-NoScriptGoesOnWhereItIsStuck =
-    (form : Form) (limits : Limits) (used : Symbols) (token : Symbol) (rest : Symbols)
-    → Goes form (script (of_limits limits) (used ++ (token ∷ rest))) (stuck (token ∷ rest))
-    → (functions : ℕ) → Begins form functions (used ++ (token ∷ [])) → ⊥
+-- What the machine has read where it is stuck, or finds no room, is the front of a script.
+abbrev pub WhatIsReadBeginsAScript : Type 0
+WhatIsReadBeginsAScript =
+    (form : Form) (limits : Limits) (tokens used rest : List Token) → tokens ≡ used ++ rest
+    → functions_in (symbols used) ≤ limits.functions
+    → Goes form (script (of_limits limits) (symbols tokens)) (stuck (symbols rest))
+    ⊎ Goes form (script (of_limits limits) (symbols tokens)) (deep (symbols rest))
+    → Begins form limits.functions (symbols used)
+
+-- The token at which it is stuck is the breaking one.
+abbrev pub StuckAtTheBreakingToken : Type 0
+StuckAtTheBreakingToken =
+    (form : Form) (limits : Limits) (tokens used rest : List Token) (token : Token)
+    → tokens ≡ used ++ (token ∷ rest) → functions_in (symbols used) ≤ limits.functions
+    → Goes form (script (of_limits limits) (symbols tokens)) (stuck (symbols (token ∷ rest)))
+    → Breaks form limits.functions tokens used token
 
 -- Where it has no room before a token, each script that begins with that token behind those before
 -- it is too deep or nests its functions too deep.

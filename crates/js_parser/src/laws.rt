@@ -105,9 +105,14 @@ pub fn what_is_read_is_a_script()
     ensures { law.WhatIsReadIsAScript }
 {}
 
-/// Where the machine is stuck no script goes on, so that the token is the breaking one.
-pub fn no_script_goes_on_where_it_is_stuck()
-    ensures { law.NoScriptGoesOnWhereItIsStuck }
+/// What the machine has read where it is stuck, or finds no room, is the front of a script.
+pub fn what_is_read_begins_a_script()
+    ensures { law.WhatIsReadBeginsAScript }
+{}
+
+/// The token at which the machine is stuck is the breaking one.
+pub fn stuck_at_the_breaking_token()
+    ensures { law.StuckAtTheBreakingToken }
 {}
 
 /// Where the machine has no room each script that goes on breaks a limit.
