@@ -8,6 +8,7 @@ use Rattle.js_parser.specs.Contexts.{Context}
 use Rattle.js_parser.specs.Rooms.{Room, unbounded, inside, in_function}
 use Rattle.js_parser.specs.Machine.{State, To, guard, fitting, expect, is_semicolon, ended_by, may_insert, ended, ended_at_once, step}
 use Rattle.js_parser.specs.Machine as mc
+use Rattle.js_parser.proofs.FrontsStarved.{Never, colon_first}
 
 -- what is read by both, and what stands behind it, in the real list and in the other one
 pub record Hole : Type 0 where
@@ -39,6 +40,8 @@ mutual
     deep : {m : Bool} {ts o : Symbols} → Took h m ts o → Alike h m (mc.deep ts) (mc.deep o)
     -- there is no room in the real run alone
     lost : {m : Bool} {ts : Symbols} {t : State} → h.same ≡ false → Alike h m (mc.deep ts) t
+    -- a colon makes the last name a label in the other list, behind which no statement fits, as no expression fits in place of it
+    unfit : {s t : State} → h.same ≡ true → colon_first h.rest ≡ false → colon_first h.other ≡ true → Never h.form t → Alike h true s t
     -- the real run is behind the front
     gone : {m : Bool} {s t o : State} → Alike h false s t → Alike h m s o
     -- and here it will be so after a step

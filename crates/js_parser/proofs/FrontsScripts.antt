@@ -1,21 +1,19 @@
--- Where the machine is stuck is the breaking token, and where it has no room each script that goes on breaks a limit.
+-- Where the machine is stuck is the breaking token, and where it has no room what was read is spent.
 use Rattle.std.proofs.Common.{◌≡◌, ◌≤◌, ◌⊎◌, inl, inr, ℕ, Bool, true, false, ◌&&◌, List, [], ◌∷◌, ◌++◌, refl, ap, sym, ◌∙◌, subst, arith}
 use Rattle.std.proofs.lemmas.List.{append_assoc, map-append}
 use Rattle.js_lexer.specs.declared.token.Token.{Token}
-use Rattle.js_tree.specs.Tree.{Script}
 use Rattle.js_parser.specs.declared.form.Form.{Form}
 use Rattle.js_parser.specs.declared.form.Limits.{Limits}
 use Rattle.js_parser.specs.Symbols.{Symbol, Symbols, symbol, symbols, is_regular, are_regular}
-use Rattle.js_parser.specs.Depth.{depth, nesting}
-use Rattle.js_parser.specs.Accepted.{Derives, functions_in}
-use Rattle.js_parser.specs.Fault.{Begins, Breaks}
+use Rattle.js_parser.specs.Accepted.{functions_in}
+use Rattle.js_parser.specs.Fault.{Begins, Breaks, IsSpent}
 use Rattle.js_parser.specs.Rooms.{Room, of_limits, unbounded}
 use Rattle.js_parser.specs.Machine.{State, done, stuck, deep, Goes, script}
 use Rattle.js_parser.proofs.Runs.{one_end}
 use Rattle.js_parser.proofs.Counts.{functions-join}
 use Rattle.js_parser.proofs.OneTree.{reads, reads_unbounded}
 use Rattle.js_parser.proofs.ReadScriptTrees.{script-read, tokens-regular}
-use Rattle.js_parser.proofs.FrontsStuck.{stays_stuck, stays_deep_before}
+use Rattle.js_parser.proofs.FrontsStuck.{stays_stuck, no_script_where_deep}
 use Rattle.js_parser.proofs.FrontsGoOn.{can_go_on}
 
 abbrev is_done : State → Bool
@@ -75,7 +73,11 @@ breaks form limits tokens used rest token e few run = record {
 
 -- ---- deep
 
-pub deep_keeps_none : (form : Form) (limits : Limits) (used : Symbols) (t : Symbol) (rest : Symbols) → Goes form (script (of_limits limits) (used ++ (t ∷ rest))) (deep (t ∷ rest)) → (more : Symbols) (tree : Script)
-    → Derives form (used ++ (t ∷ more)) tree → depth tree ≤ limits.depth → nesting tree ≤ limits.nesting → ⊥
-deep_keeps_none form limits used t rest d more tree derived h i =
-    let e = ap is_done (one_end refl refl (reads form (used ++ (t ∷ more)) tree derived limits h i) (stays_deep_before form (of_limits limits) used t rest d more)) in cc
+pub spent : (form : Form) (limits : Limits) (tokens used rest : List Token) → tokens ≡ used ++ rest → functions_in (symbols used) ≤ limits.functions
+    → Goes form (script (of_limits limits) (symbols tokens)) (deep (symbols rest)) → IsSpent form limits (symbols used)
+spent form limits tokens used rest e few run = record {
+  begins = begins form limits tokens used rest e few (inr run);
+  over = λ more tree unlimited keeps. no_script_where_deep form (of_limits limits) (symbols used) (symbols rest)
+      (subst (λ ts. Goes form (script (of_limits limits) ts) (deep (symbols rest))) (joined tokens used rest e) run) more tree
+      (reads form (symbols used ++ more) tree unlimited.derives limits keeps.not_too_deep keeps.not_too_nested);
+}

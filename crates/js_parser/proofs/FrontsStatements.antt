@@ -1,5 +1,5 @@
 -- Two runs of the machine side by side, a step in a statement.
-use Rattle.std.proofs.Common.{◌≡◌, ◌≤◌, ◌<◌, Bool, true, false, ◌&&◌, ◌||◌, not, List, [], ◌∷◌, Option, None, length, refl, ap, sym, ◌∙◌, subst, arith}
+use Rattle.std.proofs.Common.{◌≡◌, ◌⊎◌, inl, inr, ◌≤◌, ◌<◌, Bool, true, false, ◌&&◌, ◌||◌, not, List, [], ◌∷◌, Option, None, length, refl, ap, sym, subst, arith}
 use Rattle.js_lexer.specs.declared.mark.Mark.TheVariants as m
 use Rattle.js_lexer.specs.declared.word.Word.TheVariants as w
 use Rattle.js_lexer.specs.declared.token.TokenKind.{TokenKind}
@@ -12,10 +12,11 @@ use Rattle.js_parser.specs.Operators.{is_target}
 use Rattle.js_parser.specs.Names.{is_eval, is_function_name, is_infinity, may_stand, is_reference, is_binding, is_among}
 use Rattle.js_parser.specs.Contexts.{Context}
 use Rattle.js_parser.specs.Contexts as context
-use Rattle.js_parser.specs.Rooms.{Room, fits_node, fits_function}
+use Rattle.js_parser.specs.Rooms.{Room, inside, fits_node, fits_function}
 use Rattle.js_parser.specs.Machine.{State, To}
 use Rattle.js_parser.specs.Machine as mc
-use Rattle.js_parser.proofs.FrontsAlike.{Hole, At, within, behind, Took, took_within, took_behind, Rooms, Alike, Good, Tail, Taken, done, stuck, lost, gone, later, on, kept, behind-it, after, passed, refused, guarded, inner, inmost, fits, reading, at-end, expected, ended-alike, at-once-alike, comma-alike, comma-tail-alike, choice-alike, tail-alike, postfix-alike, links-alike, rest-alike, declarator-alike, declarators-alike, optional-alike, statement-alike, list-alike, source-alike, clauses-alike}
+use Rattle.js_parser.proofs.FrontsAlike.{Hole, At, within, behind, Took, took_within, took_behind, Rooms, Alike, Good, Tail, Taken, done, stuck, lost, gone, later, on, kept, behind-it, after, passed, refused, guarded, inner, inmost, fits, reading, at-end, expected, ended-alike, at-once-alike, comma-alike, comma-tail-alike, choice-alike, tail-alike, postfix-alike, links-alike, rest-alike, declarator-alike, declarators-alike, optional-alike, statement-alike, list-alike, source-alike, clauses-alike, same_room, no_limit, unfit}
+use Rattle.js_parser.proofs.FrontsStarved.{colon_first, never-label}
 use Rattle.js_parser.proofs.FrontsExpressions.{Each, expects, node}
 
 stated : {h : Hole} {room free : Room} {next also : To Stmt} → Rooms h room free → Each h Stmt next also → Good h (mc.stated room next) (mc.stated free also)
@@ -125,11 +126,6 @@ after-try {room = room} {free = free} {next = next} {also = also} form r c tried
 
 -- ---- a name, and the colon that may stand behind it
 
--- a colon stands first
-abbrev pub colon_first : Symbols → Bool
-colon_first [] = false
-colon_first (s ∷ ts) = mc.is_colon s.kind
-
 no-colon : (form : Form) (room : Room) (c : Context) (n : Name) (next : To Stmt) (s : Symbol) (ts : Symbols) → colon_first ts ≡ false → mc.label form room c n next s ts ≡ mc.stated room next (s ∷ ts)
 no-colon form room c n next s [] h = refl
 no-colon form room c n next s (t ∷ ts) h = at t.kind h
@@ -155,11 +151,12 @@ not-eval form n h = at (may_stand form n) (is_eval n) h
     at false true h = cc
 
 -- a name that is an expression is passed
-alone : {h : Hole} {t : State} (f : Symbols → State) → (a : Bool) → h.same ≡ false → Alike h false (f h.rest) t → Alike h false (mc.fitting a h.rest (f h.rest)) t
+alone : {h : Hole} {t : State} (f : Symbols → State) → (a : Bool) → (a ≡ true) ⊎ (h.same ≡ false) → Alike h false (f h.rest) t → Alike h false (mc.fitting a h.rest (f h.rest)) t
 alone f true e d = d
-alone f false e d = lost e
+alone f false (inl e) d = absurd cc
+alone f false (inr e) d = lost e
 
-pass-operand : {h : Hole} {room free : Room} {next also : To Expr} {t : State} → Rooms h room free → Each h Expr next also → (s : Symbol) (n : Name) → s.kind ≡ k.Name n → is_reference h.form n ≡ true → h.same ≡ false
+pass-operand : {h : Hole} {room free : Room} {next also : To Expr} {t : State} → Rooms h room free → Each h Expr next also → (s : Symbol) (n : Name) → s.kind ≡ k.Name n → is_reference h.form n ≡ true → (fits_node room ≡ true) ⊎ (h.same ≡ false)
     → Alike h false (mc.operand room true next (s ∷ h.rest)) t
 pass-operand {h = h} {room = room} {next = next} {t = t} r d s n e is free =
     later (subst (λ kind. Alike h false (mc.operand_by h.form kind room true next s h.rest) t) (sym e)
@@ -167,7 +164,7 @@ pass-operand {h = h} {room = room} {next = next} {t = t} r d s n e is free =
     (subst (λ a. Alike h false (mc.guard a (s ∷ h.rest) (mc.leaf room true (Tree.Ident n) next h.rest)) t) (sym is)
     (alone (λ ts. mc.links room true (Tree.Ident n) next ts) (fits_node room) free (gone (on (links-alike r d) (behind {o = h.rest} (omega arith))))))))
 
-pass-comma : {h : Hole} {room free : Room} {next also : To Expr} {t : State} → Rooms h room free → Each h Expr next also → (s : Symbol) (n : Name) → s.kind ≡ k.Name n → is_reference h.form n ≡ true → h.same ≡ false
+pass-comma : {h : Hole} {room free : Room} {next also : To Expr} {t : State} → Rooms h room free → Each h Expr next also → (s : Symbol) (n : Name) → s.kind ≡ k.Name n → is_reference h.form n ≡ true → (fits_node room ≡ true) ⊎ (h.same ≡ false)
     → Alike h false (mc.comma room true next (s ∷ h.rest)) t
 pass-comma {h = h} {room = room} {next = next} {t = t} r d s n e is free =
     later (later (later (later
@@ -187,9 +184,9 @@ label-by {h = h} {s = s} {t = t} {mode = mode} {ts = ts} {o = o} {room = room} {
     at false = on (stated r d) both
 label-by form r c _ n d both whole a = on (stated r d) both
 
-label : {h : Hole} {room free : Room} {next also : To Stmt} → Rooms h room free → (c : Context) (s : Symbol) (n : Name) → s.kind ≡ k.Name n → (h.same ≡ true → colon_first h.rest ≡ colon_first h.other)
+label : {h : Hole} {room free : Room} {next also : To Stmt} → Rooms h room free → (c : Context) (s : Symbol) (n : Name) → s.kind ≡ k.Name n
     → Each h Stmt next also → Taken h s (mc.label h.form room c n next s) (mc.label h.form free c n also s)
-label {h = h} {room = room} {free = free} {next = next} {also = also} r c s n e colons d = record { takes = λ m ts o whole a. at m ts o a }
+label {h = h} {room = room} {free = free} {next = next} {also = also} r c s n e d = record { takes = λ m ts o whole a. at m ts o a }
   where
     -- a colon stands behind the name in the real list
     colon : (ts : Symbols) → length ts ≤ length h.rest → is_reference h.form n ≡ true → colon_first ts ≡ true → Alike h false (mc.label h.form room c n next s ts) (mc.label h.form free c n also s ts)
@@ -201,14 +198,27 @@ label {h = h} {room = room} {free = free} {next = next} {also = also} r c s n e 
             subst (λ a. Alike h false (mc.labelled a room c n next s t ts) (mc.labelled a free c n also s t ts)) (sym is) (labelled {o = ts} r c n s d (behind l) (took_behind l))
         by _ i = absurd cc
 
+    -- a colon stands behind it in the other list alone
+    passing : {room free : Room} → Rooms h room free → (next also : To Stmt) → Each h Stmt next also → (a : Bool) → fits_node (inside room) ≡ a → h.same ≡ true → is_reference h.form n ≡ true → colon_first h.rest ≡ false → colon_first h.other ≡ true
+        → Alike h true (mc.stated room next (s ∷ h.rest)) (mc.label h.form free c n also s h.other)
+    passing r next also d true fit same is i j = gone {t = mc.stuck []} (pass-comma (inner r) (λ x. ended-alike (d (Tree.Do x))) s n e is (inl fit))
+    passing (same_room {room = room}) next also d false fit same is i j = unfit same i j (never-label room fit c n also s h.other is j)
+    passing (no_limit k) next also d false fit same is i j = absurd cc
+
+    moving : (a : Bool) → colon_first h.other ≡ a → h.same ≡ true → is_reference h.form n ≡ true → colon_first h.rest ≡ false → Alike h true (mc.label h.form room c n next s h.rest) (mc.label h.form free c n also s h.other)
+    moving false j same is i =
+        subst (λ u. Alike h true u (mc.label h.form free c n also s h.other)) (sym (no-colon h.form room c n next s h.rest i))
+        (subst (λ u. Alike h true (mc.stated room next (s ∷ h.rest)) u) (sym (no-colon h.form free c n also s h.other j))
+        (on (stated r d) (within (s ∷ []))))
+    moving true j same is i =
+        subst (λ u. Alike h true u (mc.label h.form free c n also s h.other)) (sym (no-colon h.form room c n next s h.rest i))
+        (passing r next also d (fits_node (inside room)) refl same is i j)
+
     none : (same : Bool) → h.same ≡ same → is_reference h.form n ≡ true → colon_first h.rest ≡ false → Alike h true (mc.label h.form room c n next s h.rest) (mc.label h.form free c n also s h.other)
     none false free-run is i =
         subst (λ u. Alike h true u (mc.label h.form free c n also s h.other)) (sym (no-colon h.form room c n next s h.rest i))
-        (gone {t = mc.stuck []} (pass-comma (inner r) (λ x. ended-alike (d (Tree.Do x))) s n e is free-run))
-    none true same is i =
-        subst (λ u. Alike h true u (mc.label h.form free c n also s h.other)) (sym (no-colon h.form room c n next s h.rest i))
-        (subst (λ u. Alike h true (mc.stated room next (s ∷ h.rest)) u) (sym (no-colon h.form free c n also s h.other (sym (colons same) ∙ i)))
-        (on (stated r d) (within (s ∷ []))))
+        (gone {t = mc.stuck []} (pass-comma (inner r) (λ x. ended-alike (d (Tree.Do x))) s n e is (inr free-run)))
+    none true same is i = moving (colon_first h.other) refl same is i
 
     reference : (a : Bool) → is_reference h.form n ≡ true → colon_first h.rest ≡ a → Alike h true (mc.label h.form room c n next s h.rest) (mc.label h.form free c n also s h.other)
     reference true is i = gone (colon h.rest (omega arith) is i)
@@ -232,26 +242,26 @@ label {h = h} {room = room} {free = free} {next = next} {also = also} r c s n e 
 
 -- ---- statements
 
-pub statement-by : {h : Hole} {s : Symbol} {room free : Room} {next also : To Stmt} → Rooms h room free → (c : Context) (kind : TokenKind) → s.kind ≡ kind → (h.same ≡ true → colon_first h.rest ≡ colon_first h.other)
+pub statement-by : {h : Hole} {s : Symbol} {room free : Room} {next also : To Stmt} → Rooms h room free → (c : Context) (kind : TokenKind) → s.kind ≡ kind
     → Each h Stmt next also → Taken h s (mc.statement_by h.form room c kind next s) (mc.statement_by h.form free c kind also s)
-statement-by r c (k.Mark m.OpenBrace) e colons d = after (braces r c d)
-statement-by r c (k.Word w.Var) e colons d = after (node r (declarators-alike (inner r) (λ items. ended-alike (d _))))
-statement-by r c (k.Mark m.Semicolon) e colons d = after (node r (d _))
-statement-by r c (k.Word w.If) e colons d = after (node r (expects mc.is_open_parenthesis (comma-alike (inner r) (λ x. expects mc.is_close_parenthesis (statement-alike (inner r) (λ body. after-if r c x body d))))))
-statement-by r c (k.Word w.Do) e colons d =
+statement-by r c (k.Mark m.OpenBrace) e d = after (braces r c d)
+statement-by r c (k.Word w.Var) e d = after (node r (declarators-alike (inner r) (λ items. ended-alike (d _))))
+statement-by r c (k.Mark m.Semicolon) e d = after (node r (d _))
+statement-by r c (k.Word w.If) e d = after (node r (expects mc.is_open_parenthesis (comma-alike (inner r) (λ x. expects mc.is_close_parenthesis (statement-alike (inner r) (λ body. after-if r c x body d))))))
+statement-by r c (k.Word w.Do) e d =
     after (node r (statement-alike (inner r) (λ body. expects mc.is_while (expects mc.is_open_parenthesis (comma-alike (inner r) (λ x. expects mc.is_close_parenthesis (ended-alike (d _))))))))
-statement-by r c (k.Word w.While) e colons d = after (node r (expects mc.is_open_parenthesis (comma-alike (inner r) (λ x. expects mc.is_close_parenthesis (statement-alike (inner r) (λ body. d _))))))
-statement-by r c (k.Word w.For) e colons d = after (node r (expects mc.is_open_parenthesis (for-header (inner r) (context.loop c) d)))
-statement-by {h = h} r c (k.Word w.Continue) e colons d = guarded (c.in_loop || mc.are_some c.loops) (λ i. after (node r (jump h.form c.in_loop c.loops Tree.Continue d)))
-statement-by {h = h} r c (k.Word w.Break) e colons d = guarded (context.may_break c || mc.are_some c.labels) (λ i. after (node r (jump h.form (context.may_break c) c.labels Tree.Break d)))
-statement-by r c (k.Word w.Return) e colons d = guarded c.in_function (λ i. after (node r (returned r d)))
-statement-by r c (k.Word w.Switch) e colons d =
+statement-by r c (k.Word w.While) e d = after (node r (expects mc.is_open_parenthesis (comma-alike (inner r) (λ x. expects mc.is_close_parenthesis (statement-alike (inner r) (λ body. d _))))))
+statement-by r c (k.Word w.For) e d = after (node r (expects mc.is_open_parenthesis (for-header (inner r) (context.loop c) d)))
+statement-by {h = h} r c (k.Word w.Continue) e d = guarded (c.in_loop || mc.are_some c.loops) (λ i. after (node r (jump h.form c.in_loop c.loops Tree.Continue d)))
+statement-by {h = h} r c (k.Word w.Break) e d = guarded (context.may_break c || mc.are_some c.labels) (λ i. after (node r (jump h.form (context.may_break c) c.labels Tree.Break d)))
+statement-by r c (k.Word w.Return) e d = guarded c.in_function (λ i. after (node r (returned r d)))
+statement-by r c (k.Word w.Switch) e d =
     after (node r (expects mc.is_open_parenthesis (comma-alike (inner r) (λ x. expects mc.is_close_parenthesis (expects mc.is_open_brace (clauses-alike (inner r) (λ cs. expects mc.is_close_brace (d _))))))))
-statement-by r c (k.Word w.Throw) e colons d = after (node r (thrown r d))
-statement-by {h = h} r c (k.Word w.Try) e colons d = after (node r (block (inner r) (context.part c) (λ tried. after-try h.form r (context.part c) tried d)))
-statement-by r c (k.Word w.Function) e colons d = refused
-statement-by {s = s} r c (k.Name n) e colons d = label r c s n e colons d
-statement-by r c _ e colons d = kept (stated r d)
+statement-by r c (k.Word w.Throw) e d = after (node r (thrown r d))
+statement-by {h = h} r c (k.Word w.Try) e d = after (node r (block (inner r) (context.part c) (λ tried. after-try h.form r (context.part c) tried d)))
+statement-by r c (k.Word w.Function) e d = refused
+statement-by {s = s} r c (k.Name n) e d = label r c s n e d
+statement-by r c _ e d = kept (stated r d)
 
 pub list-by : {h : Hole} {s : Symbol} {room free : Room} {next also : To Stmts} → Rooms h room free → (c : Context) (kind : TokenKind) → Each h Stmts next also → Taken h s (mc.list_by room c kind next s) (mc.list_by free c kind also s)
 list-by r c (k.Mark m.CloseBrace) d = kept (d _)

@@ -34,6 +34,7 @@ pub mod ReadLoopTrees
 pub mod ReadStatementTrees
 pub mod ReadScriptTrees
 pub mod OneTree
+pub mod FrontsStarved
 pub mod FrontsAlike
 pub mod FrontsExpressions
 pub mod FrontsStatements

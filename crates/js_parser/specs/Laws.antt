@@ -15,7 +15,7 @@ use Rattle.js_parser.specs.Grammar.{Formals, Expression, ArgumentList, Declarato
 use Rattle.js_lexer.specs.declared.token.Token.{Token}
 use Rattle.js_tree.specs.Numbering.{in_stmts}
 use Rattle.js_parser.specs.Accepted.{Accepted, Derives, IsOverAt, IsUnlimited, Keeps, functions_in, opened}
-use Rattle.js_parser.specs.Fault.{Begins, Breaks, Fault, Answer}
+use Rattle.js_parser.specs.Fault.{Begins, Breaks, IsSpent, Fault, Answer}
 use Rattle.js_parser.specs.declared.form.Limits.{Limits}
 use Rattle.js_parser.specs.WellPlaced.{are_placed}
 use Rattle.js_parser.specs.Depth.{depth, nesting}
@@ -227,11 +227,10 @@ StuckAtTheBreakingToken =
     → Goes form (script (of_limits limits) (symbols tokens)) (stuck (symbols (token ∷ rest)))
     → Breaks form limits.functions tokens used token
 
--- Where it has no room before a token, each script that begins with that token behind those before
--- it is too deep or nests its functions too deep.
-abbrev pub NoScriptKeepsTheLimitsWhereItIsDeep : Type 0
-NoScriptKeepsTheLimitsWhereItIsDeep =
-    (form : Form) (limits : Limits) (used : Symbols) (token : Symbol) (rest : Symbols)
-    → Goes form (script (of_limits limits) (used ++ (token ∷ rest))) (deep (token ∷ rest))
-    → (more : Symbols) (tree : Script) → Derives form (used ++ (token ∷ more)) tree
-    → depth tree ≤ limits.depth → nesting tree ≤ limits.nesting → ⊥
+-- Where it has no room, what it has read is spent: each script that begins so breaks a limit.
+abbrev pub SpentWhereThereIsNoRoom : Type 0
+SpentWhereThereIsNoRoom =
+    (form : Form) (limits : Limits) (tokens used rest : List Token) → tokens ≡ used ++ rest
+    → functions_in (symbols used) ≤ limits.functions
+    → Goes form (script (of_limits limits) (symbols tokens)) (deep (symbols rest))
+    → IsSpent form limits (symbols used)

@@ -115,7 +115,8 @@ pub fn stuck_at_the_breaking_token()
     ensures { law.StuckAtTheBreakingToken }
 {}
 
-/// Where the machine has no room each script that goes on breaks a limit.
-pub fn no_script_keeps_the_limits_where_it_is_deep()
-    ensures { law.NoScriptKeepsTheLimitsWhereItIsDeep }
+/// Where the machine has no room, what it has read is spent: each script that begins so breaks a
+/// limit.
+pub fn spent_where_there_is_no_room()
+    ensures { law.SpentWhereThereIsNoRoom }
 {}

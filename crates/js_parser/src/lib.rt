@@ -28,8 +28,8 @@ pub use form::{Construct, Form, Limits};
 pub use laws::{
     accepted_has_no_fault, brackets_are_closed, else_is_of_the_nearest_if, functions_are_counted,
     have_tokens, in_is_in_parentheses, in_may_be_allowed, levels_go_down,
-    limits_break_in_a_statement, no_script_keeps_the_limits_where_it_is_deep,
-    none_is_inserted_where_the_next_fits, one_breaking_token, one_list_of_formals, one_tree,
-    one_tree_of_a_token, scripts_are_read, scripts_do_not_break, stuck_at_the_breaking_token,
-    targets_rise, tokens_are_placed, what_is_read_begins_a_script, what_is_read_is_a_script,
+    limits_break_in_a_statement, none_is_inserted_where_the_next_fits, one_breaking_token,
+    one_list_of_formals, one_tree, one_tree_of_a_token, scripts_are_read, scripts_do_not_break,
+    spent_where_there_is_no_room, stuck_at_the_breaking_token, targets_rise, tokens_are_placed,
+    what_is_read_begins_a_script, what_is_read_is_a_script,
 };
