@@ -1,0 +1,4 @@
+pub mod Table
+pub mod Unwind
+pub mod Laws
+pub mod Rows

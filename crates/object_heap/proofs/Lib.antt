@@ -1,0 +1,2 @@
+pub mod Prototypes
+pub mod Held

@@ -1,0 +1,11 @@
+pub mod Names
+pub mod Objects
+pub mod Get
+pub mod Arrays
+pub mod Put
+pub mod Changes
+pub mod Visited
+pub mod BuiltIns
+pub mod Start
+pub mod Laws
+pub mod Rows

@@ -1,0 +1,4 @@
+pub mod Scopes
+pub mod Search
+pub mod Laws
+pub mod Rows
