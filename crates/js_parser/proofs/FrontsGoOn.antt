@@ -12,7 +12,7 @@ use Rattle.js_parser.specs.Machine as mc
 use Rattle.js_parser.proofs.Runs.{onwards}
 use Rattle.js_parser.proofs.FrontsFinish.{no_oddity, Ending, any, all-any}
 use Rattle.js_parser.proofs.FrontsFinishStatements.{sound-outermost, shuts}
-use Rattle.js_parser.proofs.FrontsReady.{Front, Can, at_end, equal, done, stuck, deep, on, open-paren, paren, open-brace, brace}
+use Rattle.js_parser.proofs.FrontsReady.{Front, Can, at_end, equal, stuck, deep, on, open-paren, paren, open-brace, brace}
 use Rattle.js_parser.proofs.FrontsReady as re
 use Rattle.js_parser.proofs.FrontsReadyExpressions.{comma-by, choice-by, tail-by, unary-by, postfix-by, operand-by, links-by, arguments-by, after-argument, elements-by, pairs-by, formals-by, one-formal-by, declarator-by, after-declarator, optional-by}
 use Rattle.js_parser.proofs.FrontsReadyStatements.{statement-by, list-by, source-by, clauses-by, finished-good}
@@ -20,25 +20,24 @@ use Rattle.js_parser.proofs.FrontsReadyStatements.{statement-by, list-by, source
 -- ---- a step
 
 -- Where the other run goes while the real one takes a step: on beside it, or what is read may be finished.
-record Along (h : Front) (s : State) (g : Symbols → State) : Type 0 where
-  after : Symbols → State
-  goes : (o : Symbols) → Goes h.form (g o) (after o)
-  can : Can h s after
+pub record Along (h : Front) (s : State) (g : Symbols → State) : Type 0 where
+  pub after : Symbols → State
+  pub goes : (o : Symbols) → Goes h.form (g o) (after o)
+  pub can : Can h s after
 
 beside : {h : Front} {s : State} {g : Symbols → State} → Can h s (λ o. step h.form (g o)) → Along h s g ⊎ Ending h.form g
 beside {h = h} {g = g} d = inl (record { after = λ o. step h.form (g o); goes = λ o. then_on here; can = d })
 
-ending-moved : {form : Form} {f g : Symbols → State} → ((o : Symbols) → f o ≡ g o) → Ending form g → Ending form f
+pub ending-moved : {form : Form} {f g : Symbols → State} → ((o : Symbols) → f o ≡ g o) → Ending form g → Ending form f
 ending-moved {form = form} e d = record { more = d.more; plain = d.plain; tree = d.tree; run = subst (λ s. Goes form s (mc.done d.tree)) (sym (e d.more)) d.run }
 
 along-moved : {h : Front} {s : State} {f g : Symbols → State} → ((o : Symbols) → f o ≡ g o) → Along h s g ⊎ Ending h.form g → Along h s f ⊎ Ending h.form f
 along-moved {h = h} e (inl a) = inl (record { after = a.after; goes = λ o. subst (λ s. Goes h.form s (a.after o)) (sym (e o)) (a.goes o); can = a.can })
 along-moved e (inr d) = inr (ending-moved e d)
 
-advance : {h : Front} {s : State} {g : Symbols → State} → Can h s g → Along h (step h.form s) g ⊎ Ending h.form g
+pub advance : {h : Front} {s : State} {g : Symbols → State} → Can h s g → Along h (step h.form s) g ⊎ Ending h.form g
 advance (at_end e) = inr e
 advance (equal d e) = along-moved e (advance d)
-advance {g = g} done = inl (record { after = g; goes = λ o. here; can = done })
 advance {g = g} (stuck t r) = inl (record { after = g; goes = λ o. here; can = stuck t r })
 advance {g = g} (deep t r) = inl (record { after = g; goes = λ o. here; can = deep t r })
 advance (re.comma {room = room} t r d) = beside (on (re.assign-good room (λ x. re.comma-tail-good room d)) (t ∷ r))
@@ -111,7 +110,7 @@ unfolding Verdict
 at-last {h = h} {g = g} d (inl e) = read-all h (subst (λ s. Verdict h s g) e (verdict d))
 at-last {h = h} {g = g} d (inr e) = read-all h (subst (λ s. Verdict h s g) e (verdict d))
 
-onwards-ending : {h : Front} {s : State} {g : Symbols → State} → ((f : Symbols → State) → Can h s f → Ending h.form f) → Along h s g ⊎ Ending h.form g → Ending h.form g
+pub onwards-ending : {h : Front} {s : State} {g : Symbols → State} → ((f : Symbols → State) → Can h s f → Ending h.form f) → Along h s g ⊎ Ending h.form g → Ending h.form g
 onwards-ending k (inl a) = let d = k a.after a.can in record { more = d.more; plain = d.plain; tree = d.tree; run = onwards (a.goes d.more) d.run }
 onwards-ending k (inr d) = d
 
@@ -119,7 +118,7 @@ finishes : {h : Front} {s u : State} {g : Symbols → State} → Goes h.form s u
 finishes here d e = at-last d e
 finishes (then_on run) d e = onwards-ending (λ f c. finishes run c e) (advance d)
 
-start : (h : Front) (room : Room) (used : Symbols) → Can h (script room (used ++ h.rest)) (λ o. script unbounded (used ++ o))
+pub start : (h : Front) (room : Room) (used : Symbols) → Can h (script room (used ++ h.rest)) (λ o. script unbounded (used ++ o))
 start h room used = on (re.source-good {good = any} room (all-any shuts) (sound-outermost h.form false) (λ ss. finished-good ss)) used
 
 -- What is read where the machine is stuck, or has no room, is the front of a script, to which no function needs to be added.

@@ -30,7 +30,6 @@ mutual
     -- at its end
     at_end : {s : State} {g : Symbols → State} → Ending h.form g → Can h s g
     equal : {s : State} {f g : Symbols → State} → Can h s g → ((o : Symbols) → f o ≡ g o) → Can h s f
-    done : {ss : Stmts} {g : Symbols → State} → Can h (mc.done ss) g
     stuck : {g : Symbols → State} (t : Symbol) (r : Symbols) → Can h (mc.stuck (t ∷ (r ++ h.rest))) g
     deep : {g : Symbols → State} (t : Symbol) (r : Symbols) → Can h (mc.deep (t ∷ (r ++ h.rest))) g
     comma : {room : Room} {i : Bool} {next also : To Expr} (t : Symbol) (r : Symbols) → ((a : Expr) → Good h closes (next a) (also a)) → Can h (mc.comma room i next (t ∷ (r ++ h.rest))) (λ o. mc.comma unbounded i also (t ∷ (r ++ o)))

@@ -16,7 +16,7 @@ use Rattle.js_parser.proofs.ReadScriptTrees.{script-read, tokens-regular}
 use Rattle.js_parser.proofs.FrontsStuck.{stays_stuck, no_script_where_deep}
 use Rattle.js_parser.proofs.FrontsGoOn.{can_go_on}
 
-abbrev is_done : State → Bool
+abbrev pub is_done : State → Bool
 is_done (done ss) = true
 is_done _ = false
 
@@ -24,7 +24,7 @@ both : (a c d : Bool) → (a && c) ≡ true → (c ≡ true → d ≡ true) → 
 both true c d h f = f h
 both false c d h f = h
 
-regular-join : (u v : Symbols) → are_regular u ≡ true → are_regular v ≡ true → are_regular (u ++ v) ≡ true
+pub regular-join : (u v : Symbols) → are_regular u ≡ true → are_regular v ≡ true → are_regular (u ++ v) ≡ true
 regular-join [] v h i = i
 regular-join (s ∷ u) v h i = both (is_regular s.kind s.in_decimal) (are_regular u) (are_regular (u ++ v)) h (λ j. regular-join u v j i)
 
@@ -40,12 +40,12 @@ read_begins form room functions used rest last regular few run is =
 
 -- ---- stuck
 
-pub stuck_begins_none : (form : Form) (limits : Limits) (used : Symbols) (t : Symbol) (rest : Symbols) → Goes form (script (of_limits limits) (used ++ (t ∷ rest))) (stuck (t ∷ rest)) → (functions : ℕ)
+pub stuck_begins_none : (form : Form) (room : Room) (used : Symbols) (t : Symbol) (rest : Symbols) → Goes form (script room (used ++ (t ∷ rest))) (stuck (t ∷ rest)) → (functions : ℕ)
     → Begins form functions (used ++ (t ∷ [])) → ⊥
-stuck_begins_none form limits used t rest d functions b =
+stuck_begins_none form room used t rest d functions b =
     let read : Goes form (script unbounded (used ++ (t ∷ b.more))) (done b.tree) = subst (λ ts. Goes form (script unbounded ts) (done b.tree)) (append_assoc used (t ∷ []) b.more)
     (reads_unbounded form ((used ++ (t ∷ [])) ++ b.more) b.tree b.unlimited.derives) in
-    let e = ap is_done (one_end refl refl read (stays_stuck form (of_limits limits) used t rest d b.more)) in cc
+    let e = ap is_done (one_end refl refl read (stays_stuck form room used t rest d b.more)) in cc
 
 -- the symbols of tokens that are put together
 joined : (tokens used rest : List Token) → tokens ≡ used ++ rest → symbols tokens ≡ symbols used ++ symbols rest
@@ -66,7 +66,7 @@ breaks form limits tokens used rest token e few run = record {
   rest = rest;
   whole = e;
   begins = begins form limits tokens used (token ∷ rest) e few (inl run);
-  ends = λ b. stuck_begins_none form limits (symbols used) (symbol token) (symbols rest)
+  ends = λ b. stuck_begins_none form (of_limits limits) (symbols used) (symbol token) (symbols rest)
       (subst (λ ts. Goes form (script (of_limits limits) ts) (stuck (symbols (token ∷ rest)))) (joined tokens used (token ∷ rest) e) run) limits.functions
       (subst (λ ts. Begins form limits.functions ts) (map-append symbol used (token ∷ [])) b);
 }

@@ -46,3 +46,9 @@ pub mod FrontsReadyExpressions
 pub mod FrontsReadyStatements
 pub mod FrontsGoOn
 pub mod FrontsScripts
+pub mod RunsEnd
+pub mod RunsEndLists
+pub mod RunsEndStatements
+pub mod EndsInside
+pub mod FrontsOfFronts
+pub mod AcceptedOrFault

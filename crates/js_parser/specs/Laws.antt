@@ -234,3 +234,10 @@ SpentWhereThereIsNoRoom =
     → functions_in (symbols used) ≤ limits.functions
     → Goes form (script (of_limits limits) (symbols tokens)) (deep (symbols rest))
     → IsSpent form limits (symbols used)
+
+-- Tokens that the end closes are an accepted script, or something may be told of them.
+abbrev pub AcceptedOrAFault : Type 0
+AcceptedOrAFault =
+    (form : Form) (limits : Limits) (tokens : List Token) (last : Token) → last.kind ≡ k.End
+    → ((tree : Script) × Accepted form limits (symbols (tokens ++ (last ∷ []))) tree)
+    ⊎ ((told : Answer) × Fault form limits (tokens ++ (last ∷ [])) told)

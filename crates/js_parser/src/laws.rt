@@ -120,3 +120,8 @@ pub fn stuck_at_the_breaking_token()
 pub fn spent_where_there_is_no_room()
     ensures { law.SpentWhereThereIsNoRoom }
 {}
+
+/// Tokens that the end closes are an accepted script, or something may be told of them.
+pub fn accepted_or_a_fault()
+    ensures { law.AcceptedOrAFault }
+{}

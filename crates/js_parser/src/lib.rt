@@ -26,8 +26,8 @@ pub use first::{
 };
 pub use form::{Construct, Form, Limits};
 pub use laws::{
-    accepted_has_no_fault, brackets_are_closed, else_is_of_the_nearest_if, functions_are_counted,
-    have_tokens, in_is_in_parentheses, in_may_be_allowed, levels_go_down,
+    accepted_has_no_fault, accepted_or_a_fault, brackets_are_closed, else_is_of_the_nearest_if,
+    functions_are_counted, have_tokens, in_is_in_parentheses, in_may_be_allowed, levels_go_down,
     limits_break_in_a_statement, none_is_inserted_where_the_next_fits, one_breaking_token,
     one_list_of_formals, one_tree, one_tree_of_a_token, scripts_are_read, scripts_do_not_break,
     spent_where_there_is_no_room, stuck_at_the_breaking_token, targets_rise, tokens_are_placed,
