@@ -43,7 +43,7 @@ pub record Parts (tokens : List Token) (u v : Symbols) : Type 0 where
   pub are_before : symbols before ≡ u
   pub are_behind : symbols behind ≡ v
 
-parts : (tokens : List Token) (u v : Symbols) → symbols tokens ≡ u ++ v → Parts tokens u v
+pub parts : (tokens : List Token) (u v : Symbols) → symbols tokens ≡ u ++ v → Parts tokens u v
 parts tokens [] v e = record { before = []; behind = tokens; whole = refl; are_before = refl; are_behind = e }
 parts [] (s ∷ u) v e = cc
 parts (t ∷ tokens) (s ∷ u) v e =
@@ -59,7 +59,7 @@ pub record At (tokens : List Token) (u : Symbols) (s : Symbol) (v : Symbols) : T
   pub are_before : symbols before ≡ u
   pub is : symbol token ≡ s
 
-at : (tokens : List Token) (u : Symbols) (s : Symbol) (v : Symbols) → symbols tokens ≡ u ++ (s ∷ v) → At tokens u s v
+pub at : (tokens : List Token) (u : Symbols) (s : Symbol) (v : Symbols) → symbols tokens ≡ u ++ (s ∷ v) → At tokens u s v
 at tokens u s v e = by (parts tokens u (s ∷ v) e)
   where
     of : (before behind : List Token) → tokens ≡ before ++ behind → symbols before ≡ u → symbols behind ≡ s ∷ v → At tokens u s v
@@ -69,7 +69,7 @@ at tokens u s v e = by (parts tokens u (s ∷ v) e)
     by : Parts tokens u (s ∷ v) → At tokens u s v
     by p = of p.before p.behind p.whole p.are_before p.are_behind
 
-end-symbol : (t : Token) → t.kind ≡ k.End → symbol t ≡ end t.newline
+pub end-symbol : (t : Token) → t.kind ≡ k.End → symbol t ≡ end t.newline
 end-symbol t h = ap (λ kind. record { kind = kind; newline = t.newline; in_decimal = is_in_decimal kind (t.end - t.start) }) h
 
 -- ---- what is told at a breaking token
@@ -78,7 +78,7 @@ told_at : (form : Form) (limits : Limits) (tokens used : List Token) (token : To
 told_at form limits tokens used token b = (answer limits.functions (symbols used) token, fault.breaking used token b refl)
 
 -- one function too many: with its word no script begins
-function_over : (form : Form) (functions : ℕ) (used : Symbols) (f : Symbol) → f.kind ≡ k.Word w.Function → functions_in used ≡ functions → Begins form functions (used ++ (f ∷ [])) → ⊥
+pub function_over : (form : Form) (functions : ℕ) (used : Symbols) (f : Symbol) → f.kind ≡ k.Word w.Function → functions_in used ≡ functions → Begins form functions (used ++ (f ∷ [])) → ⊥
 function_over form functions used f is count b =
     let few = b.unlimited.few_functions in
     let all = functions-join (used ++ (f ∷ [])) b.more in

@@ -346,3 +346,7 @@ mutual
 
 pub functions_counted : (form : Form) (tokens : Symbols) (tree : Script) → Derives form tokens tree → functions_in tokens ≡ length (in_stmts tree)
 functions_counted form tokens tree d = ap functions_in d.whole ∙ (closing (end d.newline) (source d.derived) (mere (λ n. refl) (λ n. refl))).functions
+
+-- the statements and declarations of a script close the brackets that they open
+pub sources_closed : {form : Form} {c : Context} {u : Symbols} {next : Symbol} {ss : Stmts} → SourceElements form c u next ss → (n : ℕ) → open_behind n u ≡ n
+sources_closed d n = (source d).closed n

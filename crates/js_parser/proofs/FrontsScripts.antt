@@ -48,7 +48,7 @@ stuck_begins_none form room used t rest d functions b =
     let e = ap is_done (one_end refl refl read (stays_stuck form room used t rest d b.more)) in cc
 
 -- the symbols of tokens that are put together
-joined : (tokens used rest : List Token) → tokens ≡ used ++ rest → symbols tokens ≡ symbols used ++ symbols rest
+pub joined : (tokens used rest : List Token) → tokens ≡ used ++ rest → symbols tokens ≡ symbols used ++ symbols rest
 joined tokens used rest e = ap symbols e ∙ map-append symbol used rest
 
 pub begins : (form : Form) (limits : Limits) (tokens used rest : List Token) → tokens ≡ used ++ rest → functions_in (symbols used) ≤ limits.functions

@@ -149,7 +149,7 @@ statement-by E form room c (k.Word w.Function) next d = refused
 statement-by E form room c (k.Name n) next d = label E form room c n next d
 statement-by E form room c _ next d = kept (stated E room next d)
 
-statement : {h : Whole} {n : ℕ} → Ending h n → (room : Room) (c : Context) (next : To Stmt) → Each h n Stmt next → Good h (suc n) (mc.statement room c next)
+pub statement : {h : Whole} {n : ℕ} → Ending h n → (room : Room) (c : Context) (next : To Stmt) → Each h n Stmt next → Good h (suc n) (mc.statement room c next)
 statement {h = h} E room c next d = later (mc.statement room c next) (reading (λ ts. step h.form (mc.statement room c next ts)) (λ r l. at-stuck r) (λ s. statement-by E h.form room c s.kind next d))
 
 list-by : {h : Whole} {n : ℕ} {s : Symbol} → Ending h n → (room : Room) (c : Context) (kind : TokenKind) (next : To Stmts) → Each h (suc n) Stmts next → Taken h (suc n) s (mc.list_by room c kind next s)
@@ -243,7 +243,7 @@ one-more {h = h} E = record {
 }
 
 -- with any number of tokens
-ending : (h : Whole) (n : ℕ) → Ending h n
+pub ending : (h : Whole) (n : ℕ) → Ending h n
 ending h zero = none-ends h
 ending h (suc n) = one-more (ending h n)
 

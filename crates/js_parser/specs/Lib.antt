@@ -7,6 +7,7 @@ pub mod Grammar
 pub mod Bounds
 pub mod Heights
 pub mod Depth
+pub mod Fitting
 pub mod Accepted
 pub mod Fault
 pub mod WellPlaced
@@ -16,6 +17,20 @@ pub mod States
 pub mod ReadExpressions
 pub mod ReadStatements
 pub mod Machine
+pub mod Marks
+pub mod Reads
+pub mod Pieces
+pub mod ExpressionLists
+pub mod StatementPieces
+pub mod ListViews
+pub mod View
+pub mod ListViews
+pub mod StatementKinds
+pub mod ForParts
+pub mod Nests
+pub mod Elements
+pub mod Scanned
+pub mod Parses
 pub mod First
 pub mod FirstReader
 -- what the public clauses cite of the crate below

@@ -1,5 +1,5 @@
 -- Which names may stand where.
-use Rattle.std.specs.Prelude.{ℕ, ◌&&◌, ◌||◌, nat_le, not, Bool, true, false, List, [], ◌∷◌, drop, codes, Option, Some, None, if◌then◌else◌}
+use Rattle.std.specs.Prelude.{ℕ, ◌-◌, ◌&&◌, ◌||◌, nat_le, not, Bool, true, false, List, [], ◌∷◌, drop, codes, Option, Some, None, if◌then◌else◌}
 use Rattle.std.specs.List.{list_all, list_any}
 use Rattle.std.specs.Fmt.{decimal}
 use Rattle.js_lexer.specs.Characters.{begins, first_is, is_digit, number_of}
@@ -35,6 +35,10 @@ get_name = codes "$dl_get"
 -- Doloto's own names
 abbrev pub is_own : Name → Bool
 is_own = begins (codes "$dl_")
+
+-- the value of a decimal digit
+abbrev pub digit_of : ℕ → Option ℕ
+digit_of c = if is_digit c then Some (c - 48) else None
 
 -- the number of a function in decimal, without a leading zero
 abbrev pub is_numeral : List ℕ → Bool

@@ -74,3 +74,8 @@ end = of_kind k.End
 abbrev pub first : Symbols → Symbol → Symbol
 first [] next = next
 first (s ∷ ss) next = s
+
+-- what stands behind the first symbol
+abbrev pub behind : Symbols → Symbols
+behind [] = []
+behind (s ∷ ss) = ss

@@ -1,24 +1,64 @@
-//! The grammar of scripts (ES3 sections 11 to 14), how scripts are read, and the parser of a
-//! first grammar.
+//! The grammar of scripts (ES3 sections 11 to 14), and their parser.
 //!
 //! `specs/Grammar.antt` says which tokens are a script with which tree, `specs/Accepted.antt` which
 //! scripts are accepted within limits, and `specs/Fault.antt` what may be told of a script that is
-//! not. `specs/Machine.antt` reads tokens from the left, within limits, and the laws of `laws` say
-//! that it reads just the scripts. The layers above may know the grammar, what is accepted and
-//! told, the types of `form` that these speak of, and the laws.
+//! not. `parse` answers just these. `specs/Machine.antt` reads tokens from the left, within limits;
+//! the laws of `laws` say that it reads just the scripts, and each rule of the parser is a piece of
+//! its runs (`specs/Reads.antt`). The layers above may know the grammar, what is accepted and told,
+//! the types of `form` and `error`, the laws, and the clauses of `parse`.
 //!
-//! The code knows the first grammar alone so far, of statements that call a function or write a
-//! text, function declarations, stubs and entries, and stands on the readers of `text_reader`. The
-//! layers above may know this grammar as `specs/First.antt` defines it, and that a text is read
-//! exactly where it is a text of that grammar: as `read_script` and `read_cluster` of
-//! `specs/FirstReader.antt` read it, of which the lemmas of `proofs/FirstLaws.antt` say that they
-//! find just what has the text.
+//! The first grammar, of statements that call a function or write a text, function declarations,
+//! stubs and entries, has a reader of its own, on those of `text_reader`. The layers above may know
+//! this grammar as `specs/First.antt` defines it, and that a text is read exactly where it is a
+//! text of that grammar: as `read_script` and `read_cluster` of `specs/FirstReader.antt` read it,
+//! of which the lemmas of `proofs/FirstLaws.antt` say that they find just what has the text.
 #![tactic(auto)]
 
+mod build;
+mod context;
+mod cuts;
+mod declarators;
+mod descent;
+mod elements;
+mod ends;
+mod error;
 mod first;
+mod fits;
+mod for_parts;
 mod form;
+mod fronts;
+mod functions;
+mod jumps;
+mod kinds;
+mod late;
 mod laws;
+mod link;
+mod links;
+mod lists;
+mod literals;
+mod loops;
+mod names;
+mod nodes;
+mod opening;
+mod operands;
+mod operations;
+mod operators;
+mod parsing;
+mod part;
+mod rooms;
+mod rules;
+mod scan;
+mod statement_kind;
+mod statement_nodes;
+mod statements;
+mod stop;
+mod targets;
+mod tokens;
+mod told;
+mod tree_lists;
+mod tries;
 
+pub use error::ParseError;
 pub use first::{
     FirstBody, FirstEntries, FirstEntry, FirstFunction, FirstItem, FirstItems, FirstScript,
     FirstStatement, FirstStatements, clusters_read_back, parse_first, read_first_cluster,
@@ -33,3 +73,4 @@ pub use laws::{
     spent_where_there_is_no_room, stuck_at_the_breaking_token, targets_rise, tokens_are_placed,
     what_is_read_begins_a_script, what_is_read_is_a_script,
 };
+pub use parsing::parse;
