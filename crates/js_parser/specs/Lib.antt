@@ -24,7 +24,6 @@ pub mod ExpressionLists
 pub mod StatementPieces
 pub mod ListViews
 pub mod View
-pub mod ListViews
 pub mod StatementKinds
 pub mod ForParts
 pub mod Nests
