@@ -78,6 +78,10 @@ found_at (Some o) = which o
 abbrev pub members : BuiltIn → List Name → List (Option BuiltIn)
 members b names = map (λ name. found_at (named_on (Some (number_of b)) name)) names
 
+-- what the `prototype` of each of these is
+abbrev pub prototypes_on : List BuiltIn → List (Option BuiltIn)
+prototypes_on bs = map (λ b. found_at (named_on (Some (number_of b)) (codes "prototype"))) bs
+
 abbrev pub names_of : BuiltIn → List Name
 names_of b = map (λ p. p.name) (properties_of heap_at_start (number_of b))
 

@@ -13,6 +13,7 @@ ghost use Rattle.object_heap.specs.Changes.{all_three, hidden_and_fixed, hidden_
 ghost use Rattle.object_heap.specs.Objects.{Holds, class_of, prototype_of};
 ghost use Rattle.object_heap.specs.Rows as row;
 ghost use Rattle.object_heap.specs.Rows.{members, names_of, attributes_at, lengths, value_at};
+ghost use Rattle.object_heap.specs.Rows.{prototypes_on};
 ghost use Rattle.object_heap.specs.Start.{heap_at_start};
 ghost use Rattle.object_heap.specs.Visited.{keys};
 
@@ -119,13 +120,12 @@ pub fn other_prototypes()
 
 /// The constructors.
 pub fn constructors()
-    ensures prototypes { map (λ b. members b (codes "prototype" ∷ [])) (built.Object
-        ∷ built.Array ∷ built.String ∷ built.Number ∷ built.Boolean ∷ built.Error
-        ∷ built.TypeError ∷ built.ReferenceError ∷ built.RangeError ∷ []) ≡ map (λ b. Some b ∷ [])
-        (built.ObjectPrototype ∷ built.ArrayPrototype ∷ built.StringPrototype
-        ∷ built.NumberPrototype ∷ built.BooleanPrototype ∷ built.ErrorPrototype
-        ∷ built.TypeErrorPrototype ∷ built.ReferenceErrorPrototype ∷ built.RangeErrorPrototype
-        ∷ []) }
+    ensures prototypes { prototypes_on (built.Object ∷ built.Array ∷ built.String ∷ built.Number
+        ∷ built.Boolean ∷ built.Error ∷ built.TypeError ∷ built.ReferenceError ∷ built.RangeError
+        ∷ []) ≡ map (λ b. Some b) (built.ObjectPrototype ∷ built.ArrayPrototype
+        ∷ built.StringPrototype ∷ built.NumberPrototype ∷ built.BooleanPrototype
+        ∷ built.ErrorPrototype ∷ built.TypeErrorPrototype ∷ built.ReferenceErrorPrototype
+        ∷ built.RangeErrorPrototype ∷ []) }
     ensures attributes { map attributes_at (built.Object ∷ built.TypeError ∷ built.Join ∷ [])
         ≡ replicate 2 all_three ∷ replicate 2 all_three ∷ replicate 1 all_three ∷ [] }
     ensures of_string { members built.String (codes "fromCharCode" ∷ [])
