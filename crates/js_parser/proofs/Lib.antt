@@ -1,12 +1,5 @@
-pub mod Bytes
-pub mod Numbers
 pub mod Numerals
 pub mod Spellings
-pub mod Grammar
-pub mod Scripts
-pub mod FirstLaws
-pub mod Results
-pub mod Trees
 pub mod Levels
 pub mod FormalLists
 pub mod EndTokens

@@ -30,8 +30,6 @@ pub mod Nests
 pub mod Elements
 pub mod Scanned
 pub mod Parses
-pub mod First
-pub mod FirstReader
 -- what the public clauses cite of the crate below
 pub use Rattle.js_tree.specs.Tree
 pub use Rattle.js_tree.specs.Plain

@@ -6,12 +6,6 @@
 //! the laws of `laws` say that it reads just the scripts, and each rule of the parser is a piece of
 //! its runs (`specs/Reads.antt`). The layers above may know the grammar, what is accepted and told,
 //! the types of `form` and `error`, the laws, and the clauses of `parse`.
-//!
-//! The first grammar, of statements that call a function or write a text, function declarations,
-//! stubs and entries, has a reader of its own, on those of `text_reader`. The layers above may know
-//! this grammar as `specs/First.antt` defines it, and that a text is read exactly where it is a
-//! text of that grammar: as `read_script` and `read_cluster` of `specs/FirstReader.antt` read it,
-//! of which the lemmas of `proofs/FirstLaws.antt` say that they find just what has the text.
 #![tactic(auto)]
 
 mod build;
@@ -22,7 +16,6 @@ mod descent;
 mod elements;
 mod ends;
 mod error;
-mod first;
 mod fits;
 mod for_parts;
 mod form;
@@ -59,11 +52,6 @@ mod tree_lists;
 mod tries;
 
 pub use error::ParseError;
-pub use first::{
-    FirstBody, FirstEntries, FirstEntry, FirstFunction, FirstItem, FirstItems, FirstScript,
-    FirstStatement, FirstStatements, clusters_read_back, parse_first, read_first_cluster,
-    read_first_script, scripts_read_back,
-};
 pub use form::{Construct, Form, Limits};
 pub use laws::{
     accepted_has_no_fault, accepted_or_a_fault, brackets_are_closed, else_is_of_the_nearest_if,

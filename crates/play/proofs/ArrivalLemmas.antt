@@ -3,7 +3,7 @@ use Rattle.std.proofs.Common.{◌≡◌, ℕ, zero, suc, Bool, true, false, cond
 use Rattle.std.specs.Prelude.{nat_eq, slice_get, slice_set}
 use Rattle.std.specs.Option.{option_map}
 use Rattle.dl_ports.specs.Files.{Files}
-use Rattle.js_parser.specs.declared.first.FirstEntry.{FirstEntry}
+use Rattle.first_grammar.specs.declared.script.FirstEntry.{FirstEntry}
 use Rattle.play.specs.declared.manifest.ClusterLine.{ClusterLine}
 use Rattle.play.specs.declared.table.Table.{Table}
 use Rattle.play.specs.declared.table.Entry.{Entry}

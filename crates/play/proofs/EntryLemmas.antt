@@ -6,8 +6,8 @@ use Rattle.std.specs.List.{list_any, flat_map, IsDistinct, AllByRecursion}
 use Rattle.std.proofs.lemmas.Bool.{eqb-true, eqb-false}
 use Rattle.std.proofs.Math.ListN.{length-set}
 use Rattle.dl_ports.specs.Files.{Files}
-use Rattle.js_parser.specs.declared.first.FirstEntry.{FirstEntry}
-use Rattle.js_parser.specs.FirstReader.{read_cluster}
+use Rattle.first_grammar.specs.declared.script.FirstEntry.{FirstEntry}
+use Rattle.first_grammar.specs.FirstReader.{read_cluster}
 use Rattle.play.specs.declared.manifest.ClusterLine.{ClusterLine}
 use Rattle.play.specs.declared.manifest.Manifest.{Manifest}
 use Rattle.play.specs.declared.table.Table.{Table}

@@ -4,14 +4,14 @@ use Rattle.std.specs.Prelude.{slice_get, ◌&&◌}
 use Rattle.std.specs.List.{list_all}
 use Rattle.js_tree.specs.Tree
 use Rattle.js_tree.specs.Tree.{Func}
-use Rattle.js_parser.specs.First.{statement_tree}
-use Rattle.js_parser.specs.declared.first.FirstStatement.TheVariants.{Call, Out}
-use Rattle.js_parser.specs.declared.first.FirstStatement.{FirstStatement}
-use Rattle.js_parser.specs.declared.first.FirstBody.{FirstBody}
-use Rattle.js_parser.specs.declared.first.FirstBody.TheVariants as body
-use Rattle.js_parser.specs.declared.first.FirstFunction.{FirstFunction}
-use Rattle.js_parser.specs.declared.first.FirstItem.{FirstItem}
-use Rattle.js_parser.specs.declared.first.FirstItem.TheVariants as item
+use Rattle.first_grammar.specs.First.{statement_tree}
+use Rattle.first_grammar.specs.declared.script.FirstStatement.TheVariants.{Call, Out}
+use Rattle.first_grammar.specs.declared.script.FirstStatement.{FirstStatement}
+use Rattle.first_grammar.specs.declared.script.FirstBody.{FirstBody}
+use Rattle.first_grammar.specs.declared.script.FirstBody.TheVariants as body
+use Rattle.first_grammar.specs.declared.script.FirstFunction.{FirstFunction}
+use Rattle.first_grammar.specs.declared.script.FirstItem.{FirstItem}
+use Rattle.first_grammar.specs.declared.script.FirstItem.TheVariants as item
 use Rattle.play.specs.declared.manifest.ClusterLine.{ClusterLine}
 use Rattle.play.specs.declared.manifest.Manifest.{Manifest}
 use Rattle.play.specs.declared.table.Function.{Function}

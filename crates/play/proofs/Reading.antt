@@ -1,7 +1,7 @@
 -- Texts that are read by computing.
 use Rattle.std.specs.Prelude.{◌≡◌, refl, Some, [], ◌∷◌}
 use Rattle.text_reader.specs.Reader.{skip, ended, one, run, number_of, decimal, many, list_after, behind, up_to}
-use Rattle.js_parser.specs.FirstReader.{number, statement, statements, body, function, item, items, script, entry, entries, read_script, read_cluster}
+use Rattle.first_grammar.specs.FirstReader.{number, statement, statements, body, function, item, items, script, entry, entries, read_script, read_cluster}
 use Rattle.std.specs.Fmt.{digits}
 use Rattle.play.specs.ManifestReader as m
 use Rattle.play.specs.ManifestReader.{read_manifest}

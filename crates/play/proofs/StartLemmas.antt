@@ -3,9 +3,9 @@ use Rattle.std.proofs.Common.{◌≡◌, ℕ, zero, suc, ◌+◌, List, [], ◌�
 use Rattle.std.specs.Prelude.{slice_get, replicate}
 use Rattle.dl_ports.specs.Files.{Files}
 use Rattle.js_tree.specs.Tree.{Func}
-use Rattle.js_parser.specs.First.{statements_tree}
-use Rattle.js_parser.specs.declared.first.FirstItem.{FirstItem}
-use Rattle.js_parser.specs.declared.first.FirstItem.TheVariants as item
+use Rattle.first_grammar.specs.First.{statements_tree}
+use Rattle.first_grammar.specs.declared.script.FirstItem.{FirstItem}
+use Rattle.first_grammar.specs.declared.script.FirstItem.TheVariants as item
 use Rattle.play.specs.declared.manifest.ClusterLine.{ClusterLine}
 use Rattle.play.specs.declared.manifest.Manifest.{Manifest}
 use Rattle.play.specs.declared.table.Table.{Table}
@@ -13,7 +13,7 @@ use Rattle.play.specs.declared.table.Entry.{Entry}
 use Rattle.play.specs.declared.clock.Clock.{Clock}
 use Rattle.play.specs.Value.{Env, global_env}
 use Rattle.play.specs.Program.{statements, begin_statement, declared, after_script}
-use Rattle.js_parser.specs.First.{statement_tree}
+use Rattle.first_grammar.specs.First.{statement_tree}
 use Rattle.play.specs.Run.{State, Trace, run}
 use Rattle.play.specs.Page.{written}
 use Rattle.play.specs.Site.{site_tree, entries, numbers_after}

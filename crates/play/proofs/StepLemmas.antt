@@ -5,9 +5,9 @@ use Rattle.std.specs.Str.{bytes_eq}
 use Rattle.js_tree.specs.Tree
 use Rattle.js_tree.specs.Tree.{Name, Func, Code, Stmts}
 use Rattle.js_tree.specs.declared.tree.Role.TheVariants.{Plain, Stub, Late}
-use Rattle.js_parser.specs.First.{host_name, out_name, arguments_name, apply_name, stub_tree}
-use Rattle.js_parser.specs.declared.first.FirstStatement.{FirstStatement}
-use Rattle.js_parser.specs.declared.first.FirstStatement.TheVariants.{Call, Out}
+use Rattle.first_grammar.specs.First.{host_name, out_name, arguments_name, apply_name, stub_tree}
+use Rattle.first_grammar.specs.declared.script.FirstStatement.{FirstStatement}
+use Rattle.first_grammar.specs.declared.script.FirstStatement.TheVariants.{Call, Out}
 use Rattle.play.specs.declared.table.Continuation.{Continuation}
 use Rattle.play.specs.declared.table.Frame.{Frame}
 use Rattle.play.specs.declared.table.Frame.TheVariants as frame

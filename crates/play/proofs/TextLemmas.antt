@@ -3,7 +3,7 @@ use Rattle.std.proofs.Common.{◌≡◌, ℕ, List, [], ◌∷◌, ◌++◌, cod
 use Rattle.std.specs.List.{flat_map}
 use Rattle.std.specs.Fmt.{digits}
 use Rattle.dl_text.specs.Quote.{quoted_unit}
-use Rattle.js_parser.specs.First.{out_name}
+use Rattle.first_grammar.specs.First.{out_name}
 use Rattle.play.specs.Value.{ShownText, ShownObject}
 use Rattle.play.specs.Report.{CallLine, UncaughtLine, IdleLine, line_text}
 

@@ -4,9 +4,9 @@ use Rattle.std.specs.Prelude.{slice_get, map}
 use Rattle.js_tree.specs.Tree
 use Rattle.js_tree.specs.Tree.{Name, Func}
 use Rattle.js_tree.specs.declared.tree.Role.TheVariants.{Late}
-use Rattle.js_parser.specs.First.{statements_tree, stub_tree, out_name}
-use Rattle.js_parser.specs.declared.first.FirstStatement.{FirstStatement}
-use Rattle.js_parser.specs.declared.first.FirstStatement.TheVariants.{Call, Out}
+use Rattle.first_grammar.specs.First.{statements_tree, stub_tree, out_name}
+use Rattle.first_grammar.specs.declared.script.FirstStatement.{FirstStatement}
+use Rattle.first_grammar.specs.declared.script.FirstStatement.TheVariants.{Call, Out}
 use Rattle.play.specs.declared.table.Table.{Table}
 use Rattle.play.specs.declared.table.Entry.{Entry}
 use Rattle.play.specs.declared.table.EntryPlace.{EntryPlace}

@@ -9,7 +9,7 @@ use Rattle.dl_ports.specs.Stores.{AskedNames, and_names, AsksFront}
 use Rattle.dl_ports.specs.declared.port.PortError.{PortError}
 use Rattle.dl_ports.specs.declared.port.PortError.TheVariants as port
 use Rattle.play.specs.declared.outcome.FirstFile.TheVariants as file
-use Rattle.js_parser.specs.declared.first.FirstEntry.{FirstEntry}
+use Rattle.first_grammar.specs.declared.script.FirstEntry.{FirstEntry}
 use Rattle.play.specs.declared.manifest.ClusterLine.{ClusterLine}
 use Rattle.play.specs.Tables.{loaded_entry}
 use Rattle.play.specs.declared.table.Entry.{Entry}

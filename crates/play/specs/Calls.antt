@@ -1,7 +1,7 @@
 -- What is known where the machine runs a statement.
 use Rattle.std.specs.Prelude.{◌≡◌, ℕ, List, [], ◌∷◌, drop, map, Some, None, slice_get}
-use Rattle.js_parser.specs.declared.first.FirstStatement.{FirstStatement}
-use Rattle.js_parser.specs.declared.first.FirstStatement.TheVariants.{Call, Out}
+use Rattle.first_grammar.specs.declared.script.FirstStatement.{FirstStatement}
+use Rattle.first_grammar.specs.declared.script.FirstStatement.TheVariants.{Call, Out}
 use Rattle.play.specs.declared.table.Body.TheVariants as body
 use Rattle.play.specs.declared.table.Function.{Function}
 use Rattle.play.specs.declared.table.Entry.{Entry}

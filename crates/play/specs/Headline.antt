@@ -3,7 +3,7 @@ use Rattle.std.specs.Prelude.{◌≡◌, ◌+◌, ◌*◌, ◌≤◌, ℕ, List,
 use Rattle.std.specs.List.{flat_map}
 use Rattle.dl_ports.specs.Files.{Files}
 use Rattle.js_tree.specs.Tree.{Script}
-use Rattle.js_parser.specs.declared.first.FirstItem.{FirstItem}
+use Rattle.first_grammar.specs.declared.script.FirstItem.{FirstItem}
 use Rattle.play.specs.declared.manifest.Manifest.{Manifest}
 use Rattle.play.specs.declared.outcome.End.{End}
 use Rattle.play.specs.declared.outcome.End.TheVariants as end

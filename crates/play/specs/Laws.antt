@@ -2,8 +2,8 @@
 use Rattle.std.specs.Prelude.{◌≡◌, ◌≢◌, ℕ, ◌+◌, ◌-◌, ◌*◌, ◌≤◌, List, [], ◌∷◌, ◌++◌, Option, Some, None, slice_get}
 use Rattle.js_tree.specs.Tree.{Name, Func, Code, Script}
 use Rattle.js_tree.specs.declared.tree.Role.TheVariants.{Late}
-use Rattle.js_parser.specs.First.{statements_tree}
-use Rattle.js_parser.specs.declared.first.FirstStatement.{FirstStatement}
+use Rattle.first_grammar.specs.First.{statements_tree}
+use Rattle.first_grammar.specs.declared.script.FirstStatement.{FirstStatement}
 use Rattle.play.specs.Value.{Outcome, Shown, Env}
 use Rattle.play.specs.Program.{Node, program}
 use Rattle.play.specs.Run.{State, Mark, Called, Uncaught, Idle, Entered, Needed, Trace, Say, End, OutOfSteps, IsStuck, Stack, pop, due}

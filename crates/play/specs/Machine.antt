@@ -2,8 +2,8 @@
 use Rattle.std.specs.Prelude.{◌≡◌, ℕ, zero, suc, ◌+◌, List, false, [], ◌∷◌, ◌++◌, length, map, Option, Some, None, slice_get, slice_set}
 use Rattle.js_tree.specs.Tree
 use Rattle.js_tree.specs.declared.tree.Role.TheVariants.{Plain, Stub, Late}
-use Rattle.js_parser.specs.First.{statements_tree, stub_tree}
-use Rattle.js_parser.specs.declared.first.FirstStatement.{FirstStatement}
+use Rattle.first_grammar.specs.First.{statements_tree, stub_tree}
+use Rattle.first_grammar.specs.declared.script.FirstStatement.{FirstStatement}
 use Rattle.play.specs.declared.manifest.ClusterLine.{ClusterLine}
 use Rattle.play.specs.declared.manifest.Manifest.{Manifest}
 use Rattle.play.specs.declared.table.Body.{Body}

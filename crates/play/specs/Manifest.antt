@@ -4,7 +4,7 @@ use Rattle.std.specs.Prelude.{◌≡◌, ◌≢◌, ◌≤◌, ◌^◌, ◌<◌,
 use Rattle.std.specs.Prelude.{List, [], ◌∷◌, ◌++◌, codes, map, All}
 use Rattle.std.specs.List.{flat_map, IsDistinct}
 use Rattle.std.specs.Fmt.{decimal}
-use Rattle.js_parser.specs.First.{IsFunctionNumber}
+use Rattle.first_grammar.specs.First.{IsFunctionNumber}
 use Rattle.play.specs.declared.manifest.ClusterLine.{ClusterLine}
 use Rattle.play.specs.declared.manifest.Manifest.{Manifest}
 

@@ -4,7 +4,7 @@ use Rattle.std.specs.Prelude.{ℕ, List, [], ◌∷◌, ◌++◌, Option, Some, 
 use Rattle.std.specs.Option.{option_map}
 use Rattle.std.specs.Str.{bytes_eq}
 use Rattle.dl_ports.specs.Files.{Files}
-use Rattle.js_parser.specs.declared.first.FirstItem.{FirstItem}
+use Rattle.first_grammar.specs.declared.script.FirstItem.{FirstItem}
 use Rattle.play.specs.declared.manifest.ClusterLine.{ClusterLine}
 use Rattle.play.specs.declared.manifest.Manifest.{Manifest}
 use Rattle.play.specs.declared.outcome.End.{End}

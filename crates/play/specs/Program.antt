@@ -6,7 +6,7 @@ use Rattle.js_tree.specs.Tree
 use Rattle.js_tree.specs.Tree.{Name, Expr, Exprs, NoExprs, MoreExprs, Stmt, Stmts, NoStmts, MoreStmts, Script, Func, Code, Do, Return, Declare, NoExpr, AnExpr}
 use Rattle.js_tree.specs.declared.tree.Role.{Role}
 use Rattle.js_tree.specs.declared.tree.Role.TheVariants.{Plain, Stub, Wrapper, Late}
-use Rattle.js_parser.specs.First.{out_name, apply_name}
+use Rattle.first_grammar.specs.First.{out_name, apply_name}
 use Rattle.play.specs.Value.{Value, Undefined, Text, Global, Host, HostCall, Apply, Closure, Arguments, values, items, Chain, FunctionScope, Outcome, Normal, Returned, Thrown, Env}
 
 -- what is begun with a step

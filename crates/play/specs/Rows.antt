@@ -3,12 +3,12 @@ use Rattle.std.specs.Prelude.{ℕ, List, [], ◌∷◌, ◌++◌, codes, Some, N
 use Rattle.std.specs.Str.{bytes_eq}
 use Rattle.dl_ports.specs.Files.{Files}
 use Rattle.js_tree.specs.Tree.{Func, Script}
-use Rattle.js_parser.specs.First.{out_name}
-use Rattle.js_parser.specs.declared.first.FirstStatement.TheVariants.{Call, Out}
-use Rattle.js_parser.specs.declared.first.FirstBody.TheVariants.{Statements, Stub}
-use Rattle.js_parser.specs.declared.first.FirstEntry.{FirstEntry}
-use Rattle.js_parser.specs.declared.first.FirstItem.{FirstItem}
-use Rattle.js_parser.specs.declared.first.FirstItem.TheVariants.{Statement, Function}
+use Rattle.first_grammar.specs.First.{out_name}
+use Rattle.first_grammar.specs.declared.script.FirstStatement.TheVariants.{Call, Out}
+use Rattle.first_grammar.specs.declared.script.FirstBody.TheVariants.{Statements, Stub}
+use Rattle.first_grammar.specs.declared.script.FirstEntry.{FirstEntry}
+use Rattle.first_grammar.specs.declared.script.FirstItem.{FirstItem}
+use Rattle.first_grammar.specs.declared.script.FirstItem.TheVariants.{Statement, Function}
 use Rattle.play.specs.declared.manifest.Manifest.{Manifest}
 use Rattle.play.specs.Site.{site_tree, late_function}
 use Rattle.play.specs.Played.{Answer, Answered}

@@ -3,8 +3,8 @@ use Rattle.std.specs.Prelude.{ℕ, List, [], ◌∷◌, codes, Some, None, Optio
 use Rattle.js_tree.specs.Tree.{Name, Func, Stmts, NoStmts, MoreStmts, Code, Declare, Script}
 use Rattle.js_tree.specs.declared.tree.Role.{Role}
 use Rattle.js_tree.specs.declared.tree.Role.TheVariants.{Plain, Stub, Late}
-use Rattle.js_parser.specs.First.{statements_tree, stub_tree}
-use Rattle.js_parser.specs.declared.first.FirstStatement.TheVariants.{Call, Out}
+use Rattle.first_grammar.specs.First.{statements_tree, stub_tree}
+use Rattle.first_grammar.specs.declared.script.FirstStatement.TheVariants.{Call, Out}
 use Rattle.play.specs.PutBack.{PutsBack}
 use Rattle.play.specs.Rows as rows
 

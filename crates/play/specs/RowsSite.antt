@@ -2,7 +2,7 @@
 use Rattle.std.specs.Prelude.{◌≡◌, ℕ, List, [], ◌∷◌, ◌++◌, codes, Some, None, Option, map}
 use Rattle.dl_ports.specs.Files.{Files}
 use Rattle.js_tree.specs.Numbering.{number_of}
-use Rattle.js_parser.specs.declared.first.FirstItem.{FirstItem}
+use Rattle.first_grammar.specs.declared.script.FirstItem.{FirstItem}
 use Rattle.play.specs.declared.manifest.ClusterLine.{ClusterLine}
 use Rattle.play.specs.declared.manifest.Manifest.{Manifest}
 use Rattle.play.specs.ManifestReader.{read_manifest}

@@ -3,7 +3,7 @@ use Rattle.std.specs.Prelude.{ℕ, List, [], ◌∷◌, codes, Some}
 use Rattle.js_tree.specs.Tree
 use Rattle.js_tree.specs.Tree.{Name, Expr, Exprs, Stmt, Stmts, NoStmts, MoreStmts, Script}
 use Rattle.js_tree.specs.declared.tree.Role.TheVariants.{Plain}
-use Rattle.js_parser.specs.First.{apply_name, arguments_name, host_name, out_name}
+use Rattle.first_grammar.specs.First.{apply_name, arguments_name, host_name, out_name}
 use Rattle.play.specs.Page.{original}
 use Rattle.play.specs.Rows as rows
 use Rattle.play.specs.Rows.{Timed}

@@ -2,11 +2,11 @@
 -- and their traces.
 use Rattle.std.specs.Prelude.{ℕ, List, [], ◌∷◌, codes, Some, None, Option, cond, nat_eq}
 use Rattle.js_tree.specs.Tree.{Name, Func}
-use Rattle.js_parser.specs.declared.first.FirstStatement.{FirstStatement}
-use Rattle.js_parser.specs.declared.first.FirstStatement.TheVariants.{Call, Out}
-use Rattle.js_parser.specs.declared.first.FirstBody.TheVariants.{Statements, Stub}
-use Rattle.js_parser.specs.declared.first.FirstItem.{FirstItem}
-use Rattle.js_parser.specs.declared.first.FirstItem.TheVariants.{Statement, Function}
+use Rattle.first_grammar.specs.declared.script.FirstStatement.{FirstStatement}
+use Rattle.first_grammar.specs.declared.script.FirstStatement.TheVariants.{Call, Out}
+use Rattle.first_grammar.specs.declared.script.FirstBody.TheVariants.{Statements, Stub}
+use Rattle.first_grammar.specs.declared.script.FirstItem.{FirstItem}
+use Rattle.first_grammar.specs.declared.script.FirstItem.TheVariants.{Statement, Function}
 use Rattle.play.specs.Value.{Value, Undefined, Global, Outcome, Normal, Returned, Thrown, Shown}
 use Rattle.play.specs.Program.{Program, Ret, Tell, TellUncaught, Fail, Enter}
 use Rattle.play.specs.Page.{no_entries, start, written}

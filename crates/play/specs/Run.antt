@@ -2,7 +2,7 @@
 use Rattle.std.specs.Prelude.{ℕ, suc, zero, List, [], ◌∷◌, ◌++◌, Option, Some, None, cond}
 use Rattle.std.specs.Str.{bytes_eq}
 use Rattle.js_tree.specs.Tree.{Name, Func, Code}
-use Rattle.js_parser.specs.First.{host_name, arguments_name}
+use Rattle.first_grammar.specs.First.{host_name, arguments_name}
 use Rattle.play.specs.Value.{Value, Undefined, Host, Closure, Arguments, Error, Chain, GlobalScope, FunctionScope, Outcome, Thrown, Shown, shown, passed_with, all_shown, all_passed}
 use Rattle.play.specs.Program.{Program, Ret, Begin, Enter, Tick, Tell, TellUncaught, TellIdle, Beat, Need, Define, Find, Get, Fail, Stuck, program, entry, property}
 

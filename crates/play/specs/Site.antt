@@ -6,14 +6,14 @@ use Rattle.std.specs.Fmt.{decimal}
 use Rattle.dl_ports.specs.Files.{Files}
 use Rattle.js_tree.specs.Tree
 use Rattle.js_tree.specs.declared.tree.Role.TheVariants.{Plain, Stub, Late}
-use Rattle.js_parser.specs.First.{statement_tree, statements_tree, stub_tree}
-use Rattle.js_parser.specs.declared.first.FirstBody.{FirstBody}
-use Rattle.js_parser.specs.declared.first.FirstBody.TheVariants as body
-use Rattle.js_parser.specs.declared.first.FirstItem.{FirstItem}
-use Rattle.js_parser.specs.declared.first.FirstItem.TheVariants as item
-use Rattle.js_parser.specs.declared.first.FirstEntry.{FirstEntry}
-use Rattle.js_parser.specs.declared.first.FirstScript.{FirstScript}
-use Rattle.js_parser.specs.FirstReader.{read_script, read_cluster}
+use Rattle.first_grammar.specs.First.{statement_tree, statements_tree, stub_tree}
+use Rattle.first_grammar.specs.declared.script.FirstBody.{FirstBody}
+use Rattle.first_grammar.specs.declared.script.FirstBody.TheVariants as body
+use Rattle.first_grammar.specs.declared.script.FirstItem.{FirstItem}
+use Rattle.first_grammar.specs.declared.script.FirstItem.TheVariants as item
+use Rattle.first_grammar.specs.declared.script.FirstEntry.{FirstEntry}
+use Rattle.first_grammar.specs.declared.script.FirstScript.{FirstScript}
+use Rattle.first_grammar.specs.FirstReader.{read_script, read_cluster}
 use Rattle.play.specs.declared.manifest.ClusterLine.{ClusterLine}
 use Rattle.play.specs.declared.manifest.Manifest.{Manifest}
 

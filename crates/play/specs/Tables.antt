@@ -1,9 +1,9 @@
 -- How a table is made of a manifest and the items of its script.
 use Rattle.std.specs.Prelude.{◌≡◌, List, [], ◌∷◌, None, length, map, replicate}
-use Rattle.js_parser.specs.declared.first.FirstStatement.{FirstStatement}
-use Rattle.js_parser.specs.declared.first.FirstItem.{FirstItem}
-use Rattle.js_parser.specs.declared.first.FirstItem.TheVariants as item
-use Rattle.js_parser.specs.declared.first.FirstEntry.{FirstEntry}
+use Rattle.first_grammar.specs.declared.script.FirstStatement.{FirstStatement}
+use Rattle.first_grammar.specs.declared.script.FirstItem.{FirstItem}
+use Rattle.first_grammar.specs.declared.script.FirstItem.TheVariants as item
+use Rattle.first_grammar.specs.declared.script.FirstEntry.{FirstEntry}
 use Rattle.play.specs.declared.manifest.Manifest.{Manifest}
 use Rattle.play.specs.declared.table.Entry.{Entry}
 use Rattle.play.specs.declared.table.Table.{Table}

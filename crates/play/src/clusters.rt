@@ -1,13 +1,13 @@
 ghost use Rattle.std.specs.Prelude.{◌≡◌, List, IfOk, MatchOption, map, Some, string_bytes};
 ghost use Rattle.std.specs.Str.{bytes_eq};
-ghost use Rattle.js_parser.specs.declared.first.FirstEntry.{FirstEntry as AnEntry};
+ghost use Rattle.first_grammar.specs.declared.script.FirstEntry.{FirstEntry as AnEntry};
 ghost use Rattle.play.specs.Site.{cluster_name, cluster_of_bytes, Refused, Accepted};
 ghost use Rattle.play.specs.Tables.{loaded_entry};
 
 use crate::code::Code;
 use crate::manifest::ClusterLine;
 use crate::table::{Entries, Entry};
-use js_parser::{FirstEntries, FirstEntry, read_first_cluster};
+use first_grammar::{FirstEntries, FirstEntry, read_first_cluster};
 use sqlite_items::Items;
 use std::alloc::{AllocError, Global};
 

@@ -1,6 +1,6 @@
 ghost use Rattle.std.specs.Prelude.{◌≡◌, ◌∷◌, [], drop, IfOk, MatchOption};
 
-use js_parser::{FirstStatement, FirstStatements};
+use first_grammar::{FirstStatement, FirstStatements};
 use std::alloc::{AllocError, Global};
 use std::marker::Model;
 use std::rc::Rc;
@@ -13,7 +13,7 @@ pub struct Code {
 
 impl Model for Code {
     ghost use Rattle.std.specs.Prelude.{List};
-    ghost use Rattle.js_parser.specs.declared.first.FirstStatement.{FirstStatement};
+    ghost use Rattle.first_grammar.specs.declared.script.FirstStatement.{FirstStatement};
 
     ghost Value = { List FirstStatement };
 
@@ -48,7 +48,7 @@ pub struct Rest {
 
 impl Model for Rest {
     ghost use Rattle.std.specs.Prelude.{List, drop, length, ◌≤◌};
-    ghost use Rattle.js_parser.specs.declared.first.FirstStatement.{FirstStatement};
+    ghost use Rattle.first_grammar.specs.declared.script.FirstStatement.{FirstStatement};
 
     ghost Value = { List FirstStatement };
 

@@ -3,7 +3,7 @@
 
 ghost use Rattle.std.specs.Prelude.{◌≡◌, ◌+◌, ◌≤◌, ℕ, List, [], Option};
 ghost use Rattle.dl_ports.specs.Files.{Files};
-ghost use Rattle.js_parser.specs.declared.first.FirstItem.{FirstItem};
+ghost use Rattle.first_grammar.specs.declared.script.FirstItem.{FirstItem};
 ghost use Rattle.js_tree.specs.Tree.{Func, Script};
 ghost use Rattle.play.specs.declared.manifest.Manifest.{Manifest};
 ghost use Rattle.play.specs.declared.outcome.End.{End};

@@ -1,5 +1,5 @@
 ghost use Rattle.std.specs.Prelude.{◌≡◌, ◌+◌, ◌<◌, ◌∷◌, ◌++◌, [], List, ℕ, drop, map, IfOk, OnOk, IsSome, MatchOption, slice_get};
-ghost use Rattle.js_parser.specs.First.{out_name};
+ghost use Rattle.first_grammar.specs.First.{out_name};
 ghost use Rattle.play.specs.Value.{ShownText};
 ghost use Rattle.play.specs.Report.{CallLine, IdleLine, line_text};
 ghost use Rattle.play.specs.Run.{function_named};
@@ -11,7 +11,7 @@ use crate::code::{Code, Rest};
 use crate::report::{push_call, push_idle, push_uncaught};
 use crate::table::{Body, Continuation, Entry, EntryPlace, Frame, Function, Table};
 use dl_text::Text;
-use js_parser::FirstStatement;
+use first_grammar::FirstStatement;
 use sqlite_items::Items;
 use std::alloc::AllocError;
 use std::mem;

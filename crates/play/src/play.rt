@@ -23,7 +23,7 @@ use crate::site::{read_script, statements_of, table_of};
 use crate::table::{Continuation, Entries, Table};
 use dl_ports::Store;
 use dl_text::Text;
-use js_parser::FirstItem;
+use first_grammar::FirstItem;
 use sqlite_items::Items;
 use std::alloc::{AllocError, Global};
 

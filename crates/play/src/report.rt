@@ -1,5 +1,5 @@
 ghost use Rattle.std.specs.Prelude.{◌≡◌, [], ◌∷◌, ◌++◌, OnOk};
-ghost use Rattle.js_parser.specs.First.{out_name};
+ghost use Rattle.first_grammar.specs.First.{out_name};
 ghost use Rattle.play.specs.Value.{ShownObject, ShownText};
 ghost use Rattle.play.specs.Report.{CallLine, IdleLine, UncaughtLine, line_text, numbered_line};
 ghost use Rattle.play.specs.Machine.{arrived_report};

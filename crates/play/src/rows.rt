@@ -2,7 +2,7 @@
 //! what holds and of what does not.
 
 ghost use Rattle.std.specs.Prelude.{◌≡◌, ℕ, List, [], ◌∷◌, ◌++◌, Option, Some, None, true, false, codes};
-ghost use Rattle.js_parser.specs.declared.first.FirstStatement.TheVariants.{Call, Out};
+ghost use Rattle.first_grammar.specs.declared.script.FirstStatement.TheVariants.{Call, Out};
 ghost use Rattle.js_tree.specs.Tree.{Script, MoreStmts, Declare, Do, NoExpr, Return, This};
 ghost use Rattle.js_tree.specs.declared.tree.Role.TheVariants.{Wrapper, Late};
 ghost use Rattle.play.specs.declared.outcome.End.TheVariants as end;

@@ -10,7 +10,7 @@ use crate::code::Code;
 use crate::manifest::Manifest;
 use crate::table::{Body, EntryPlace, Function, Functions, FunctionsByLetter, Loaded, Table};
 use dl_text::TryCopy;
-use js_parser::{
+use first_grammar::{
     FirstBody, FirstFunction, FirstItem, FirstItems, FirstStatement, FirstStatements,
     read_first_script,
 };

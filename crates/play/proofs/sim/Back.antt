@@ -3,13 +3,13 @@ use Rattle.std.proofs.Common.{◌≡◌, ℕ, List, [], ◌∷◌, Option, Some,
 use Rattle.std.specs.Option.{option_map}
 use Rattle.js_tree.specs.Tree.{Name, Stmts, MoreStmts, NoStmts, Script, Func, Code, Declare}
 use Rattle.js_tree.specs.declared.tree.Role.TheVariants.{Plain, Stub}
-use Rattle.js_parser.specs.First.{statement_tree, statements_tree, stub_tree}
-use Rattle.js_parser.specs.declared.first.FirstStatement.{FirstStatement}
-use Rattle.js_parser.specs.declared.first.FirstStatement.TheVariants as statement
-use Rattle.js_parser.specs.declared.first.FirstBody.{FirstBody}
-use Rattle.js_parser.specs.declared.first.FirstBody.TheVariants as body
-use Rattle.js_parser.specs.declared.first.FirstItem.{FirstItem}
-use Rattle.js_parser.specs.declared.first.FirstItem.TheVariants as item
+use Rattle.first_grammar.specs.First.{statement_tree, statements_tree, stub_tree}
+use Rattle.first_grammar.specs.declared.script.FirstStatement.{FirstStatement}
+use Rattle.first_grammar.specs.declared.script.FirstStatement.TheVariants as statement
+use Rattle.first_grammar.specs.declared.script.FirstBody.{FirstBody}
+use Rattle.first_grammar.specs.declared.script.FirstBody.TheVariants as body
+use Rattle.first_grammar.specs.declared.script.FirstItem.{FirstItem}
+use Rattle.first_grammar.specs.declared.script.FirstItem.TheVariants as item
 use Rattle.play.specs.Site.{numbered, numbers_after, site_tree}
 use Rattle.play.specs.PutBack.{entry_body, with_body, back_func, back_stmt, and_rest, back}
 use Rattle.play.specs.Laws.{IsLate}

@@ -2,7 +2,7 @@
 use Rattle.std.proofs.Common.{◌≡◌, ℕ, zero, suc, ◌+◌, ◌-◌, ◌*◌, ◌≤◌, List, ◌∷◌, ◌++◌, length, Option, Some, sym, ap, subst, arith}
 use Rattle.js_tree.specs.Tree.{Name, Stmts, Func, Code}
 use Rattle.js_tree.specs.declared.tree.Role.TheVariants.{Plain, Stub, Late}
-use Rattle.js_parser.specs.First.{stub_tree}
+use Rattle.first_grammar.specs.First.{stub_tree}
 use Rattle.play.specs.Value.{Value, Error, values, Chain, Outcome, Thrown, Shown, passed_with, all_passed}
 use Rattle.play.specs.Program.{Program, statements, finish, entry, opened, body_of}
 use Rattle.play.specs.Run.{State, Called, Uncaught, Idle, Entered, Needed, Trace, Say, Stack, with_step, with_beat, with_error, with_passed, with_functions, enters, pop, due, run}

@@ -4,9 +4,9 @@ use Rattle.std.specs.Prelude.{nat_eq}
 use Rattle.dl_ports.specs.Files.{Files}
 use Rattle.js_tree.specs.Tree.{Func, Code}
 use Rattle.js_tree.specs.declared.tree.Role.TheVariants.{Late}
-use Rattle.js_parser.specs.First.{statements_tree}
-use Rattle.js_parser.specs.declared.first.FirstStatement.{FirstStatement}
-use Rattle.js_parser.specs.declared.first.FirstEntry.{FirstEntry}
+use Rattle.first_grammar.specs.First.{statements_tree}
+use Rattle.first_grammar.specs.declared.script.FirstStatement.{FirstStatement}
+use Rattle.first_grammar.specs.declared.script.FirstEntry.{FirstEntry}
 use Rattle.play.specs.declared.manifest.ClusterLine.{ClusterLine}
 use Rattle.play.specs.declared.manifest.Manifest.{Manifest}
 use Rattle.play.specs.Site.{ClusterFile, Absent, Refused, Accepted, cluster_file, line_of, late_function, entry_among, entry_in, entry_by, entries}

@@ -3,7 +3,7 @@ use Rattle.std.proofs.Common.{◌≡◌, ℕ, suc, ◌+◌, List, [], ◌∷◌,
 use Rattle.js_tree.specs.Tree
 use Rattle.js_tree.specs.Tree.{Name, Stmts, Func, Code, This, Ident, NoExprs, MoreExprs}
 use Rattle.js_tree.specs.declared.tree.Role.TheVariants.{Late}
-use Rattle.js_parser.specs.First.{apply_name, arguments_name, stub_tree}
+use Rattle.first_grammar.specs.First.{apply_name, arguments_name, stub_tree}
 use Rattle.play.specs.Value.{Value, Undefined, Closure, values, Chain, FunctionScope, Outcome, Normal, Returned, Thrown, Env}
 use Rattle.play.specs.Program.{Program, statements, late, call_property, on_value, after_statement, returns, finish, ticks, this_of}
 use Rattle.play.specs.Run.{State, Say, Needed, Stack, Next, with_step, pop, due, run}

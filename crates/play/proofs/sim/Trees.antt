@@ -2,7 +2,7 @@
 use Rattle.std.specs.Prelude.{◌≡◌, ℕ, List, Option, Some}
 use Rattle.js_tree.specs.Tree.{Name, Expr, Str, This, Ident, Dot, Call, Exprs, NoExprs, MoreExprs, NoExpr, AnExpr, Stmt, Do, Return, Declare, Stmts, NoStmts, MoreStmts, Func, Code}
 use Rattle.js_tree.specs.declared.tree.Role.TheVariants.{Plain, Stub, Late}
-use Rattle.js_parser.specs.First.{stub_tree}
+use Rattle.first_grammar.specs.First.{stub_tree}
 use Rattle.play.specs.Program.{Node, Expression, Statement, ScriptCode}
 
 mutual

@@ -2,7 +2,7 @@
 use Rattle.std.proofs.Common.{◌≡◌, ℕ, List, [], ◌∷◌, Option, Some, None, Bool, true, false, cond, refl, ap, ◌∙◌, subst}
 use Rattle.std.specs.Str.{bytes_eq}
 use Rattle.js_tree.specs.Tree.{Name, Func}
-use Rattle.js_parser.specs.First.{host_name, out_name, arguments_name, apply_name}
+use Rattle.first_grammar.specs.First.{host_name, out_name, arguments_name, apply_name}
 use Rattle.play.specs.Value.{Value, Undefined, Text, Global, Host, HostCall, Apply, Closure, Arguments, Error, Values, NoValues, MoreValues, values, items, Chain, GlobalScope, FunctionScope, Outcome, Normal, Returned, Thrown, Env, shown, passed_with, all_shown, all_passed}
 use Rattle.play.specs.Program.{property, this_of, array_of}
 use Rattle.play.specs.Run.{State, or_else, is_named, named_value, function_named, find}

@@ -1,6 +1,6 @@
 ghost use Rattle.std.specs.Prelude.{◌≡◌, All, IfOk};
 ghost use Rattle.std.specs.List.{list_all};
-ghost use Rattle.js_parser.specs.First.{IsFunctionNumber};
+ghost use Rattle.first_grammar.specs.First.{IsFunctionNumber};
 ghost use Rattle.play.specs.Manifest.{all_numbers, cluster_numbers};
 ghost use Rattle.js_tree.specs.Numbering.{is_function_number};
 ghost use Rattle.play.specs.ManifestReader as reader;

@@ -1,6 +1,6 @@
 use Rattle.std.proofs.Common.{◌≡◌, length, drop, map}
 use Rattle.std.specs.Str.{bytes_eq}
-use Rattle.js_parser.specs.declared.first.FirstEntry.{FirstEntry}
+use Rattle.first_grammar.specs.declared.script.FirstEntry.{FirstEntry}
 use Rattle.play.proofs.clusters.is_listed_as.Given as goal
 
 abbrev pub invariant-loop-at : goal.invariant-loop-at

@@ -1,7 +1,7 @@
 use Rattle.std.specs.Prelude.{refl}
 use Rattle.std.specs.Fmt.{digits}
 use Rattle.text_reader.specs.Reader as text
-use Rattle.js_parser.specs.FirstReader as first
+use Rattle.first_grammar.specs.FirstReader as first
 use Rattle.play.proofs.rows.script_files.Goals as goal
 
 pub returns-clause-fits : goal.returns-clause-fits

@@ -1,6 +1,6 @@
 use Rattle.std.proofs.Common.{◌≡◌, true}
 use Rattle.std.proofs.lemmas.List.Elements.{All-same}
-use Rattle.js_parser.specs.First.{IsFunctionNumber}
+use Rattle.first_grammar.specs.First.{IsFunctionNumber}
 use Rattle.play.specs.ManifestReader.{has_lines_of_form}
 use Rattle.play.proofs.ManifestForm.{all_function_numbers}
 use Rattle.play.proofs.manifest.form.is_manifest.Goals as goal

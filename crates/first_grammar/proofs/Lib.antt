@@ -1,0 +1,7 @@
+pub mod Bytes
+pub mod Numbers
+pub mod Grammar
+pub mod Scripts
+pub mod FirstLaws
+pub mod Results
+pub mod Trees

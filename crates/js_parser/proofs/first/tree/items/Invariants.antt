@@ -1,8 +1,0 @@
-use Rattle.std.proofs.Common.{◌≡◌, take}
-use Rattle.std.specs.Prelude.{map}
-use Rattle.js_tree.specs.Plain as plain
-use Rattle.js_parser.specs.First as first
-use Rattle.js_parser.proofs.first.tree.items.Given as goal
-
-abbrev pub invariant-loop-one : goal.invariant-loop-one
-invariant-loop-one l = map plain.stmt l.tree ≡ map first.item_tree (take l.one-index l.items)

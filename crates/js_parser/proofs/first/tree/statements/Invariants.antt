@@ -1,8 +1,0 @@
-use Rattle.std.proofs.Common.{◌≡◌, take}
-use Rattle.std.specs.Prelude.{map}
-use Rattle.js_tree.specs.Plain as plain
-use Rattle.js_parser.specs.First as first
-use Rattle.js_parser.proofs.first.tree.statements.Given as goal
-
-abbrev pub invariant-loop-one : goal.invariant-loop-one
-invariant-loop-one l = map plain.stmt l.tree ≡ map first.statement_tree (take l.one-index l.statements)
