@@ -10,11 +10,11 @@ use Rattle.js_tree.specs.declared.tree.PrefixOp.TheVariants as p
 use Rattle.js_tree.specs.declared.tree.PostfixOp.TheVariants as q
 use Rattle.js_parser.specs.declared.form.Form.TheVariants.{Source, Written}
 use Rattle.js_parser.specs.Symbols.{word, mark, name, number, string}
-use Rattle.js_parser.specs.Operators.{LogicalOr, Operation}
+use Rattle.js_tree.specs.Levels.{LogicalOr, Operation}
 use Rattle.js_parser.specs.Ends.{at_line, at_brace, at_end, written, before_line, before_brace}
 use Rattle.js_parser.specs.Bounds.{in_source, in_site}
 use Rattle.js_parser.specs.Grammar as g
-use Rattle.grammar_rows.specs.PrintedText.{body_text, entry_text, func_text}
+use Rattle.js_printer.specs.PrintedText.{body_text, entry_text, func_text}
 use Rattle.grammar_rows.specs.Rows as rows
 
 -- `a` LF `++` LF `b`

@@ -5,10 +5,10 @@ use Rattle.js_parser.specs.declared.form.Form.{Form}
 use Rattle.js_parser.specs.Symbols.{Symbols, end}
 use Rattle.js_parser.specs.Contexts as context
 use Rattle.js_parser.specs.Grammar.{SourceElements}
-use Rattle.js_parser.specs.Depth.{depth, nesting}
+use Rattle.js_tree.specs.Depth.{depth, nesting}
 use Rattle.js_parser.specs.Accepted.{Accepted, IsUnlimited, functions_in, most_open}
 use Rattle.js_parser.specs.Fault.{Begins}
-use Rattle.grammar_rows.specs.PrintedText.{script_text}
+use Rattle.js_printer.specs.PrintedText.{script_text}
 use Rattle.grammar_rows.specs.TextRows.{IsOf, Reads, Same, BreaksAt, tokens, limits_of}
 use Rattle.js_parser.specs.Rooms.{unbounded}
 use Rattle.js_parser.specs.Machine.{run, script}

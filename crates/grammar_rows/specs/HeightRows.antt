@@ -4,8 +4,8 @@ use Rattle.std.specs.Prelude.{ℕ, List, [], ◌∷◌, map, replicate}
 use Rattle.js_tree.specs.declared.tree.PrefixOp.TheVariants.{Not}
 use Rattle.js_tree.specs.Tree.{Expr, Num, Null, Prefix}
 use Rattle.js_tree.specs.TreeRows.{expressions, statements, function}
-use Rattle.js_parser.specs.Heights.{expr_height, stmt_height}
-use Rattle.js_parser.specs.Depth.{by_nodes, by_functions}
+use Rattle.js_tree.specs.Heights.{expr_height, stmt_height}
+use Rattle.js_tree.specs.Depth.{by_nodes, by_functions}
 
 -- of depth 1
 abbrev pub low : Expr

@@ -12,7 +12,7 @@ use Rattle.js_parser.specs.declared.form.Limits.{Limits}
 use Rattle.js_parser.specs.Symbols.{Symbols, word, mark, name, number, string, end}
 use Rattle.js_parser.specs.Accepted.{Accepted}
 use Rattle.js_parser.specs.Grammar.{code}
-use Rattle.grammar_rows.specs.PrintedText.{script_text}
+use Rattle.js_printer.specs.PrintedText.{script_text}
 
 -- the tokens are an accepted script of this tree, which is written as the text
 abbrev pub IsWorked : Form → Limits → Symbols → Script → List ℕ → Type 0

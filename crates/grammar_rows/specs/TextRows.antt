@@ -17,7 +17,7 @@ use Rattle.js_parser.specs.Bounds.{in_source, in_site}
 use Rattle.js_parser.specs.Symbols.{Symbol, Symbols, word, mark, name, number_in, string, end}
 use Rattle.js_parser.specs.Accepted.{Accepted}
 use Rattle.js_parser.specs.Fault.{Begins}
-use Rattle.grammar_rows.specs.PrintedText.{script_text}
+use Rattle.js_printer.specs.PrintedText.{script_text}
 
 -- ---- the tokens of a text
 

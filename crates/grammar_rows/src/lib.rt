@@ -1,14 +1,11 @@
-//! Worked texts of the grammar, and the printed text (ES3 sections 11 to 14), as definitions.
+//! Worked texts of the grammar and of the printer (ES3 sections 11 to 14).
 //!
 //! This layer runs nothing. Its rows compute texts in the definitions of `js_parser`: which tokens
-//! they have, whether these are accepted and with which tree, what is told of them, and what the
-//! tree is written as. `specs/Printed.antt` says which text a tree is written as, until the printer
-//! has that definition. The layers above may know the definition of the printed text, and its law
-//! in `laws`; nothing stands on the rows.
+//! they have, whether these are accepted and with which tree, what is told of them, and in the
+//! definitions of `js_printer` what the tree is written as. Nothing stands on the rows.
 #![tactic(auto)]
 
 mod expression_rows;
-mod laws;
 mod limit_rows;
 mod printed_rows;
 mod rows;
@@ -17,7 +14,6 @@ mod statement_rows;
 pub use expression_rows::{
     assignments, calls, formals, headers, literals, names, operators, prefixes, written_form,
 };
-pub use laws::printed_tokens_read_back;
 pub use limit_rows::{
     bounds, counted_tokens, depths, in_decimal, limits, nestings, placed_tokens, told_by_tokens,
 };

@@ -11,7 +11,7 @@ ghost use Rattle.js_parser.specs.Accepted.{Accepted};
 ghost use Rattle.js_parser.specs.Symbols.{symbols};
 ghost use Rattle.js_parser.specs.declared.form.Construct.TheVariants as c;
 ghost use Rattle.js_parser.specs.Fault.{Fault, Syntax, Refused, TooDeep, TooMany};
-ghost use Rattle.grammar_rows.specs.PrintedText.{body_text, entry_text, func_text};
+ghost use Rattle.js_printer.specs.PrintedText.{body_text, entry_text, func_text};
 ghost use Rattle.grammar_rows.specs.Rows as rows;
 ghost use Rattle.grammar_rows.specs.RefusedRows as refused;
 ghost use Rattle.grammar_rows.specs.RefusedRows.{place};

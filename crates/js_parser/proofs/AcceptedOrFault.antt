@@ -10,7 +10,7 @@ use Rattle.js_tree.specs.Tree.{Script}
 use Rattle.js_parser.specs.declared.form.Form.{Form}
 use Rattle.js_parser.specs.declared.form.Limits.{Limits}
 use Rattle.js_parser.specs.Symbols.{Symbol, Symbols, symbol, symbols, end, first, is_in_decimal, is_regular, are_regular}
-use Rattle.js_parser.specs.Depth.{depth, nesting}
+use Rattle.js_tree.specs.Depth.{depth, nesting}
 use Rattle.js_parser.specs.Contexts as context
 use Rattle.js_parser.specs.Accepted.{Derives, IsUnlimited, Accepted, Keeps, IsOverAt, functions_in, most_open, counted}
 use Rattle.js_parser.specs.Fault.{Begins, Breaks, Fault, Answer, answer}

@@ -11,8 +11,8 @@ use Rattle.js_parser.specs.Symbols.{Symbol, Symbols, first, end}
 use Rattle.js_parser.specs.Contexts as context
 use Rattle.js_parser.specs.Grammar.{SourceElement, SourceElements}
 use Rattle.js_parser.specs.Grammar as g
-use Rattle.js_parser.specs.Heights.{stmt_height}
-use Rattle.js_parser.specs.Depth.{depth, nesting, by_nodes, by_functions}
+use Rattle.js_tree.specs.Heights.{stmt_height}
+use Rattle.js_tree.specs.Depth.{depth, nesting, by_nodes, by_functions}
 use Rattle.js_parser.specs.Accepted.{IsUnlimited, Keeps, IsOverAt, most_open, opened, functions_in}
 use Rattle.js_parser.specs.Laws.{open_behind}
 use Rattle.js_parser.proofs.Counts.{source}

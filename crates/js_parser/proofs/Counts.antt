@@ -16,7 +16,8 @@ use Rattle.js_tree.specs.Tree.{Name, Expr, Exprs, MaybeExpr, Elements, Pairs, St
 use Rattle.js_tree.specs.Numbering.{in_expr, in_exprs, in_maybe_expr, in_elements, in_pairs, in_stmt, in_stmts, in_var_items, in_cases, in_for_init}
 use Rattle.js_parser.specs.declared.form.Form.{Form}
 use Rattle.js_parser.specs.Symbols.{Symbol, Symbols, of_kind, word, mark, name, end}
-use Rattle.js_parser.specs.Operators.{Operator, LogicalOr, LogicalAnd, Operation, joined, sign, prefix_sign, postfix_sign, assignment}
+use Rattle.js_tree.specs.Levels.{Operator, LogicalOr, LogicalAnd, Operation, joined}
+use Rattle.js_parser.specs.Operators.{sign, prefix_sign, postfix_sign, assignment}
 use Rattle.js_parser.specs.Names.{key_of, get_name}
 use Rattle.js_parser.specs.Contexts.{Context}
 use Rattle.js_parser.specs.Ends.{Ends, EndsAtOnce}

@@ -17,8 +17,8 @@ use Rattle.js_parser.specs.declared.form.Form.{Form}
 use Rattle.js_parser.specs.Symbols.{Symbol, Symbols, are_regular, word, name}
 use Rattle.js_parser.specs.Names.{is_binding}
 use Rattle.js_parser.specs.Contexts.{Context}
-use Rattle.js_parser.specs.Heights.{stmt_height}
-use Rattle.js_parser.specs.Depth.{by_nodes, by_functions}
+use Rattle.js_tree.specs.Heights.{stmt_height}
+use Rattle.js_tree.specs.Depth.{by_nodes, by_functions}
 use Rattle.js_parser.specs.Grammar.{SourceElement, code}
 use Rattle.js_parser.specs.Grammar as g
 use Rattle.js_parser.specs.Rooms.{Room, in_function, fits_function}

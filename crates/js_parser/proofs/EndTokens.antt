@@ -15,7 +15,8 @@ use Rattle.js_tree.specs.declared.tree.PostfixOp.TheVariants as q
 use Rattle.js_tree.specs.Tree.{Name, Expr, Exprs, Stmts}
 use Rattle.js_parser.specs.declared.form.Form.{Form}
 use Rattle.js_parser.specs.Symbols.{Symbol, Symbols, mark, name}
-use Rattle.js_parser.specs.Operators.{Operator, LogicalOr, LogicalAnd, Operation, level, sign, prefix_sign, postfix_sign, assignment}
+use Rattle.js_tree.specs.Levels.{Operator, LogicalOr, LogicalAnd, Operation, level}
+use Rattle.js_parser.specs.Operators.{sign, prefix_sign, postfix_sign, assignment}
 use Rattle.js_parser.specs.Ends.{ends_from, ends_changed, is_change}
 use Rattle.js_parser.specs.Grammar.{Expression, NewCallee, Arguments, ArgumentList, FunctionRest}
 use Rattle.js_parser.specs.Grammar as g

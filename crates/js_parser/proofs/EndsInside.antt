@@ -13,7 +13,8 @@ use Rattle.js_tree.specs.declared.tree.PostfixOp.TheVariants as q
 use Rattle.js_tree.specs.Tree.{Name, Expr, Exprs, MaybeExpr, Elements, Pairs, Stmt, Stmts, VarItems, Cases, ForInit}
 use Rattle.js_parser.specs.declared.form.Form.{Form}
 use Rattle.js_parser.specs.Symbols.{Symbol, Symbols, of_kind, word, mark, end, are_regular}
-use Rattle.js_parser.specs.Operators.{Operator, LogicalOr, LogicalAnd, Operation, sign, prefix_sign, postfix_sign}
+use Rattle.js_tree.specs.Levels.{Operator, LogicalOr, LogicalAnd, Operation}
+use Rattle.js_parser.specs.Operators.{sign, prefix_sign, postfix_sign}
 use Rattle.js_parser.specs.Names.{key_of}
 use Rattle.js_parser.specs.Contexts.{Context}
 use Rattle.js_parser.specs.Ends.{Ends, EndsAtOnce}

@@ -12,8 +12,8 @@ use Rattle.js_tree.specs.declared.tree.Stmt.TheVariants.{rolls-If, rolls-For}
 use Rattle.js_tree.specs.declared.tree.Expr.TheFolds.{fold-roll-Expr, fold-roll-Stmt}
 use Rattle.js_tree.specs.Tree as plain
 use Rattle.js_tree.specs.Plain as view
-use Rattle.js_parser.specs.Depth.{by_nodes}
-use Rattle.js_parser.specs.Heights as heights
+use Rattle.js_tree.specs.Depth.{by_nodes}
+use Rattle.js_tree.specs.Heights as heights
 use Rattle.js_parser.specs.Fitting as spec
 
 fits_inside : (a most inside : ℕ) → most ≡ suc inside → nat_le (suc a) most ≡ nat_le a inside

@@ -12,7 +12,8 @@ use Rattle.js_tree.specs.Numbering.{is_function_number}
 use Rattle.js_parser.specs.declared.form.Form.{Form}
 use Rattle.js_parser.specs.declared.form.Form.TheVariants.{Source, Written}
 use Rattle.js_parser.specs.Symbols.{Symbol, Symbols}
-use Rattle.js_parser.specs.Operators.{Operator, level, may_operate, is_target, changes}
+use Rattle.js_tree.specs.Levels.{Operator, level, changes}
+use Rattle.js_parser.specs.Operators.{may_operate, is_target}
 use Rattle.js_parser.specs.Names.{is_eval, is_reference, is_binding, is_property}
 use Rattle.js_parser.specs.Rooms.{Room, fits_node, fits_around, fits_function}
 use Rattle.js_parser.specs.Machine.{State, To, guard}

@@ -10,7 +10,7 @@ use Rattle.js_tree.specs.Tree.{Name, Expr, Stmt, Stmts}
 use Rattle.js_parser.specs.declared.form.Form.{Form}
 use Rattle.js_parser.specs.declared.form.Form.TheVariants.{Source, Written}
 use Rattle.js_parser.specs.Symbols.{Symbol, Symbols}
-use Rattle.js_parser.specs.Operators.{changes}
+use Rattle.js_tree.specs.Levels.{changes}
 use Rattle.js_parser.specs.Names.{is_eval, is_reference, is_among}
 use Rattle.js_parser.specs.Contexts.{Context}
 use Rattle.js_parser.specs.Contexts as context

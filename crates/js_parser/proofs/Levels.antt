@@ -4,7 +4,8 @@ use Rattle.js_tree.specs.declared.tree.BinaryOp.TheVariants as b
 use Rattle.js_tree.specs.Tree.{Expr, Exprs, Stmt, VarItems}
 use Rattle.js_parser.specs.declared.form.Form.{Form}
 use Rattle.js_parser.specs.Symbols.{Symbol, Symbols}
-use Rattle.js_parser.specs.Operators.{Operator, LogicalOr, LogicalAnd, Operation, joined, may_operate, is_target}
+use Rattle.js_tree.specs.Levels.{Operator, LogicalOr, LogicalAnd, Operation, joined}
+use Rattle.js_parser.specs.Operators.{may_operate, is_target}
 use Rattle.js_parser.specs.Contexts.{Context}
 use Rattle.js_parser.specs.Grammar.{Expression, NewCallee, ArgumentList, DeclaratorList, Statement, SourceElement}
 use Rattle.js_parser.specs.Grammar as g

@@ -11,8 +11,8 @@ use Rattle.js_parser.specs.Symbols.{Symbol, Symbols, symbols, first, end}
 use Rattle.js_parser.specs.Contexts.{Context}
 use Rattle.js_parser.specs.Grammar.{SourceElement, SourceElements}
 use Rattle.js_parser.specs.Grammar as g
-use Rattle.js_parser.specs.Heights.{stmt_height}
-use Rattle.js_parser.specs.Depth.{depth, nesting, by_nodes, by_functions}
+use Rattle.js_tree.specs.Heights.{stmt_height}
+use Rattle.js_tree.specs.Depth.{depth, nesting, by_nodes, by_functions}
 use Rattle.js_parser.specs.Accepted.{Derives, Accepted, IsOverAt, most_open, opened}
 use Rattle.js_parser.specs.Fault.{Fault, Answer, breaking, over, spent}
 use Rattle.js_parser.specs.Laws.{open_behind}

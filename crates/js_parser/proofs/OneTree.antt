@@ -6,7 +6,7 @@ use Rattle.js_tree.specs.Tree
 use Rattle.js_parser.specs.declared.form.Form.{Form}
 use Rattle.js_parser.specs.declared.form.Limits.{Limits}
 use Rattle.js_parser.specs.Symbols.{Symbols, end}
-use Rattle.js_parser.specs.Depth.{depth, nesting}
+use Rattle.js_tree.specs.Depth.{depth, nesting}
 use Rattle.js_parser.specs.Accepted.{Derives}
 use Rattle.js_parser.specs.Fault.{Begins}
 use Rattle.js_parser.specs.Rooms.{Room, unbounded, of_limits}

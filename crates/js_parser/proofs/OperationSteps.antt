@@ -9,7 +9,8 @@ use Rattle.js_tree.specs.declared.tree.PostfixOp.{PostfixOp}
 use Rattle.js_tree.specs.Tree.{Expr}
 use Rattle.js_parser.specs.declared.form.Form.{Form}
 use Rattle.js_parser.specs.Symbols.{Symbols, behind}
-use Rattle.js_parser.specs.Operators.{Operator, level, may_operate, changes, is_target}
+use Rattle.js_tree.specs.Levels.{Operator, level, changes}
+use Rattle.js_parser.specs.Operators.{may_operate, is_target}
 use Rattle.js_parser.specs.Rooms.{Room}
 use Rattle.js_parser.specs.Marks.{is_comma, is_question}
 use Rattle.js_parser.specs.Machine.{State, To, comma_tail, comma_by, choice, choice_by, assign_to, tail, tail_by, unary, unary_by, prefix_by, postfix, operand, stuck, guard, operator_of, prefix_of, Goes, here, then_on}

@@ -14,8 +14,8 @@ use Rattle.js_parser.specs.Contexts.{Context}
 use Rattle.js_parser.specs.Contexts as context
 use Rattle.js_parser.specs.Ends.{Ends, EndsAtOnce, ends_changed, reach, list_reach}
 use Rattle.js_parser.specs.Ends as e
-use Rattle.js_parser.specs.Heights.{expr_height, stmt_height}
-use Rattle.js_parser.specs.Depth.{by_nodes, by_functions}
+use Rattle.js_tree.specs.Heights.{expr_height, stmt_height}
+use Rattle.js_tree.specs.Depth.{by_nodes, by_functions}
 use Rattle.js_parser.specs.Grammar.{Block, Statement, StatementList}
 use Rattle.js_parser.specs.Grammar as g
 use Rattle.js_parser.specs.Rooms.{Room, one_less, inside, fits, fits_node}

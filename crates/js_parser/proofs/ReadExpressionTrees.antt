@@ -16,10 +16,11 @@ use Rattle.js_tree.specs.Tree.{Expr, Stmts}
 use Rattle.js_tree.specs.Tree
 use Rattle.js_parser.specs.declared.form.Form.{Form}
 use Rattle.js_parser.specs.Symbols.{Symbol, Symbols, is_regular, are_regular, of_kind, word, mark}
-use Rattle.js_parser.specs.Operators.{Operator, LogicalOr, LogicalAnd, Operation, joined, sign, level, may_operate, prefix_sign, changes, postfix_sign, assignment, is_target}
+use Rattle.js_tree.specs.Levels.{Operator, LogicalOr, LogicalAnd, Operation, joined, level, changes}
+use Rattle.js_parser.specs.Operators.{sign, may_operate, prefix_sign, postfix_sign, assignment, is_target}
 use Rattle.js_parser.specs.Ends.{ends_changed, is_change}
-use Rattle.js_parser.specs.Heights.{expr_height}
-use Rattle.js_parser.specs.Depth.{by_nodes, by_functions}
+use Rattle.js_tree.specs.Heights.{expr_height}
+use Rattle.js_tree.specs.Depth.{by_nodes, by_functions}
 use Rattle.js_parser.specs.Grammar.{Expression}
 use Rattle.js_parser.specs.Grammar as g
 use Rattle.js_parser.specs.Rooms.{Room, inside, fits_node, fits_around}

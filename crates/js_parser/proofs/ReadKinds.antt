@@ -15,7 +15,8 @@ use Rattle.js_tree.specs.Tree.{Expr}
 use Rattle.js_tree.specs.Tree
 use Rattle.js_parser.specs.declared.form.Form.{Form}
 use Rattle.js_parser.specs.Symbols.{Symbol, Symbols}
-use Rattle.js_parser.specs.Operators.{Operator, LogicalOr, LogicalAnd, Operation, sign, level, may_operate, prefix_sign, postfix_sign, assignment, is_target}
+use Rattle.js_tree.specs.Levels.{Operator, LogicalOr, LogicalAnd, Operation, level}
+use Rattle.js_parser.specs.Operators.{sign, may_operate, prefix_sign, postfix_sign, assignment, is_target}
 use Rattle.js_parser.specs.Ends.{unless}
 use Rattle.js_parser.specs.Rooms.{Room, fits_around}
 use Rattle.js_parser.specs.Machine.{To, guard, fitting, comma_by, assign_to, choice_by, operator_of, prefix_of, postfix_by, links_by, is_open_parenthesis, is_close_parenthesis, is_close_bracket, is_open_brace, is_close_brace, is_colon, is_semicolon, is_while, is_end}

@@ -11,8 +11,8 @@ use Rattle.js_parser.specs.Symbols.{Symbol, Symbols, are_regular, word, mark}
 use Rattle.js_parser.specs.Operators.{is_target}
 use Rattle.js_parser.specs.Contexts.{Context}
 use Rattle.js_parser.specs.Contexts as context
-use Rattle.js_parser.specs.Heights.{stmt_height, for_init_height, for_target_height}
-use Rattle.js_parser.specs.Depth.{by_nodes, by_functions}
+use Rattle.js_tree.specs.Heights.{stmt_height, for_init_height, for_target_height}
+use Rattle.js_tree.specs.Depth.{by_nodes, by_functions}
 use Rattle.js_parser.specs.Grammar.{Expression, ForFirst, Statement}
 use Rattle.js_parser.specs.Grammar as g
 use Rattle.js_parser.specs.Rooms.{Room, inside, fits_node}

@@ -14,7 +14,7 @@ use Rattle.js_parser.specs.Symbols.{Symbol, Symbols, is_in_decimal, is_regular, 
 use Rattle.js_parser.specs.Names.{is_binding}
 use Rattle.js_parser.specs.Contexts.{Context}
 use Rattle.js_parser.specs.Contexts as context
-use Rattle.js_parser.specs.Depth.{depth, nesting}
+use Rattle.js_tree.specs.Depth.{depth, nesting}
 use Rattle.js_parser.specs.Accepted.{Derives}
 use Rattle.js_parser.specs.Grammar.{Statement, StatementList, CaseClauses, SourceElement, SourceElements, code}
 use Rattle.js_parser.specs.Grammar as g

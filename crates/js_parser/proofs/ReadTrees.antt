@@ -14,8 +14,8 @@ use Rattle.js_parser.specs.Symbols.{Symbol, Symbols, is_regular, are_regular, of
 use Rattle.js_parser.specs.Names.{is_distinct}
 use Rattle.js_parser.specs.Contexts.{Context}
 use Rattle.js_parser.specs.Ends.{ends_changed, kind_reach, list_reach, declarator_reach}
-use Rattle.js_parser.specs.Heights.{expr_height, exprs_height, maybe_expr_height, elements_height, pairs_height, stmt_height, stmts_height, var_items_height, cases_height}
-use Rattle.js_parser.specs.Depth.{by_nodes, by_functions}
+use Rattle.js_tree.specs.Heights.{expr_height, exprs_height, maybe_expr_height, elements_height, pairs_height, stmt_height, stmts_height, var_items_height, cases_height}
+use Rattle.js_tree.specs.Depth.{by_nodes, by_functions}
 use Rattle.js_parser.specs.Grammar.{Formals, Expression, NewCallee, Arguments, ArgumentList, ElementList, PropertyList, FunctionRest, Declarator, DeclaratorList, OptionalExpression, Statement, StatementList, CaseClauses, SourceElements}
 use Rattle.js_parser.specs.Rooms.{Room, one_less, inside, in_function, fits, fits_node, fits_around, fits_function}
 use Rattle.js_parser.specs.Machine.{State, done, stuck, deep, comma, comma_tail, assign, choice, climb, tail, unary, postfix, operand, links, arguments, argument_list, elements, pairs, rest, formals, formal, declarator, declarators, optional, statement, list, source, clauses, To, guard, fitting, expect, step, run}

@@ -4,7 +4,7 @@ use Rattle.std.proofs.lemmas.List.{append_assoc}
 use Rattle.js_tree.specs.Tree.{Expr}
 use Rattle.js_parser.specs.declared.form.Form.{Form}
 use Rattle.js_parser.specs.Symbols.{Symbols}
-use Rattle.js_parser.specs.Operators.{Operator, level}
+use Rattle.js_tree.specs.Levels.{Operator, level}
 use Rattle.js_parser.specs.Ends.{ends_changed, kind_reach}
 use Rattle.js_parser.specs.Rooms.{Room}
 use Rattle.js_parser.specs.Machine.{State, comma, comma_tail, assign, choice, climb, tail, unary, postfix, operand, links, To, unary_by, Goes, then_on}

@@ -12,7 +12,8 @@ use Rattle.js_tree.specs.declared.tree.PrefixOp.{PrefixOp}
 use Rattle.js_tree.specs.declared.tree.PrefixOp.TheVariants as p
 use Rattle.js_tree.specs.Tree.{Expr}
 use Rattle.js_parser.specs.Symbols.{Symbol, Symbols}
-use Rattle.js_parser.specs.Operators.{Operator, LogicalOr, LogicalAnd, Operation, joined, sign, level, may_operate, prefix_sign, assignment}
+use Rattle.js_tree.specs.Levels.{Operator, LogicalOr, LogicalAnd, Operation, joined, level}
+use Rattle.js_parser.specs.Operators.{sign, may_operate, prefix_sign, assignment}
 use Rattle.js_parser.specs.Rooms.{Room, inside, fits_around}
 use Rattle.js_parser.specs.Machine.{climb, tail, To, fitting, assign_to, choice_by, tail_by, operator_of, prefix_of}
 use Rattle.js_parser.proofs.EndTokens.{begins_operand}

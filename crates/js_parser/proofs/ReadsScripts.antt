@@ -8,7 +8,8 @@ use Rattle.js_tree.specs.Tree.{Name, Expr, Exprs, MaybeExpr, Elements, Pairs, St
 use Rattle.js_tree.specs.Tree
 use Rattle.js_parser.specs.declared.form.Form.{Form}
 use Rattle.js_parser.specs.Symbols.{Symbol, Symbols, of_kind, word, mark, name, number, first}
-use Rattle.js_parser.specs.Operators.{joined, sign, level, prefix_sign, postfix_sign, is_target}
+use Rattle.js_tree.specs.Levels.{joined, level}
+use Rattle.js_parser.specs.Operators.{sign, prefix_sign, postfix_sign, is_target}
 use Rattle.js_parser.specs.Names.{get_name, is_reference, is_among}
 use Rattle.js_parser.specs.Contexts.{Context}
 use Rattle.js_parser.specs.Contexts as context

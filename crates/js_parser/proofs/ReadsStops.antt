@@ -9,7 +9,8 @@ use Rattle.js_tree.specs.Tree.{Expr}
 use Rattle.js_tree.specs.Tree
 use Rattle.js_parser.specs.declared.form.Form.{Form}
 use Rattle.js_parser.specs.Symbols.{Symbol, Symbols, first, end}
-use Rattle.js_parser.specs.Operators.{Operator, joined, level, may_operate}
+use Rattle.js_tree.specs.Levels.{Operator, joined, level}
+use Rattle.js_parser.specs.Operators.{may_operate}
 use Rattle.js_parser.specs.Ends.{ends_changed, kind_reach}
 use Rattle.js_parser.specs.Rooms.{Room, inside, fits_around}
 use Rattle.js_parser.specs.Machine.{comma_tail, choice, climb, tail, postfix, links, To, fitting, comma_by, choice_by, tail_by, postfix_by, links_by, new_by, after_new, operator_of, Goes, here, then_on}

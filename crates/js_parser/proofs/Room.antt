@@ -7,11 +7,11 @@ use Rattle.js_tree.specs.declared.tree.PostfixOp.{PostfixOp}
 use Rattle.js_tree.specs.Tree.{Name, Expr, Exprs, MaybeExpr, Elements, Pairs, Stmt, Stmts, VarItems, Cases, ForInit, ForTarget, Handler, MaybeStmt}
 use Rattle.js_tree.specs.Tree
 use Rattle.js_parser.specs.declared.form.Limits.{Limits}
-use Rattle.js_parser.specs.Operators.{Operator, LogicalOr, LogicalAnd, Operation, joined}
+use Rattle.js_tree.specs.Levels.{Operator, LogicalOr, LogicalAnd, Operation, joined}
 use Rattle.js_parser.specs.Grammar.{code}
-use Rattle.js_parser.specs.Heights as heights
-use Rattle.js_parser.specs.Heights.{Growth}
-use Rattle.js_parser.specs.Depth.{by_nodes, by_functions, depth, nesting}
+use Rattle.js_tree.specs.Heights as heights
+use Rattle.js_tree.specs.Heights.{Growth}
+use Rattle.js_tree.specs.Depth.{by_nodes, by_functions, depth, nesting}
 use Rattle.js_parser.specs.Rooms.{Room, unbounded, of_limits, one_less, inside, in_function, fits, fits_node, fits_around, fits_function}
 
 -- what a tree is made of

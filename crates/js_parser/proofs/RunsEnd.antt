@@ -15,7 +15,8 @@ use Rattle.js_parser.specs.declared.form.Form.{Form}
 use Rattle.js_parser.specs.declared.form.Form.TheVariants.{Source, Written}
 use Rattle.js_parser.specs.Symbols.{Symbol, Symbols}
 use Rattle.js_parser.specs.Contexts.{Context}
-use Rattle.js_parser.specs.Operators.{Operator, level, may_operate, is_target, changes}
+use Rattle.js_tree.specs.Levels.{Operator, level, changes}
+use Rattle.js_parser.specs.Operators.{may_operate, is_target}
 use Rattle.js_parser.specs.Names.{is_eval, is_reference, is_binding, is_property}
 use Rattle.js_parser.specs.Rooms.{Room}
 use Rattle.js_parser.specs.Machine.{State, To, guard, fitting, expect, is_semicolon, ended_by, may_insert, ended, ended_at_once, step, Goes, here, then_on}

@@ -9,7 +9,8 @@ use Rattle.js_tree.specs.Tree.{Expr, Stmt}
 use Rattle.js_tree.specs.Tree
 use Rattle.js_parser.specs.declared.form.Form.{Form}
 use Rattle.js_parser.specs.Symbols.{Symbol, Symbols, mark}
-use Rattle.js_parser.specs.Operators.{Operator, LogicalOr, LogicalAnd, Operation, joined, may_operate, is_in_operation}
+use Rattle.js_tree.specs.Levels.{Operator, LogicalOr, LogicalAnd, Operation, joined, is_in_operation}
+use Rattle.js_parser.specs.Operators.{may_operate}
 use Rattle.js_parser.specs.Contexts.{Context}
 use Rattle.js_parser.specs.Ends.{Ends, reach, kind_reach, ends_changed}
 use Rattle.js_parser.specs.Ends as e

@@ -10,7 +10,7 @@ use Rattle.js_parser.specs.declared.form.Limits.{Limits}
 use Rattle.js_parser.specs.Symbols.{Symbols, end, first}
 use Rattle.js_parser.specs.Contexts as context
 use Rattle.js_parser.specs.Grammar.{SourceElement, SourceElements}
-use Rattle.js_parser.specs.Depth.{depth, nesting}
+use Rattle.js_tree.specs.Depth.{depth, nesting}
 
 -- The tokens, which the end closes, are a script with this tree (ES3 section 14).
 pub record Derives (form : Form) (tokens : Symbols) (tree : Script) : Type 0 where

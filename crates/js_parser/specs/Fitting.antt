@@ -13,8 +13,8 @@ use Rattle.js_tree.specs.declared.tree.Expr.TheFolds.{fold-Pair, fold-Case, fold
 use Rattle.js_tree.specs.Tree as plain
 use Rattle.js_tree.specs.Plain as view
 use Rattle.js_tree.specs.Plain.{CasePart, PairPart, VarPart, expr_level, for_init_level, for_target_level, stmt_level, case_level, func_level, pair_level, var_item_level}
-use Rattle.js_parser.specs.Heights as heights
-use Rattle.js_parser.specs.Depth.{by_nodes}
+use Rattle.js_tree.specs.Heights as heights
+use Rattle.js_tree.specs.Depth.{by_nodes}
 
 -- ---- the plain parts of declared ones
 

@@ -23,7 +23,8 @@ use Rattle.js_lexer.specs.declared.mark.Mark.{Mark}
 use Rattle.js_parser.specs.declared.form.Form.{Form}
 use Rattle.js_parser.specs.declared.form.Form.TheVariants.{Written}
 use Rattle.js_parser.specs.Symbols.{Symbol, Symbols, of_kind, word, mark, name, number, number_in, string, first}
-use Rattle.js_parser.specs.Operators.{Operator, joined, sign, level, may_operate, prefix_sign, changes, postfix_sign, assignment, is_target}
+use Rattle.js_tree.specs.Levels.{Operator, joined, level, changes}
+use Rattle.js_parser.specs.Operators.{sign, may_operate, prefix_sign, postfix_sign, assignment, is_target}
 use Rattle.js_tree.specs.Numbering.{is_function_number}
 use Rattle.js_parser.specs.Names.{get_name, is_reference, is_binding, is_property, key_of, is_among, is_distinct}
 use Rattle.js_parser.specs.Contexts.{Context, part, loop, clause, labelled}

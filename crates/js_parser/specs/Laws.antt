@@ -8,7 +8,8 @@ use Rattle.js_tree.specs.Tree
 use Rattle.js_tree.specs.Tree.{Name, Expr, Exprs, Stmt, VarItems, Script, MaybeStmt}
 use Rattle.js_parser.specs.declared.form.Form.{Form}
 use Rattle.js_parser.specs.Symbols.{Symbol, Symbols, symbols}
-use Rattle.js_parser.specs.Operators.{is_target, is_in_operation}
+use Rattle.js_tree.specs.Levels.{is_in_operation}
+use Rattle.js_parser.specs.Operators.{is_target}
 use Rattle.js_parser.specs.Contexts.{Context}
 use Rattle.js_parser.specs.Ends.{ends_changed}
 use Rattle.js_parser.specs.Grammar.{Formals, Expression, ArgumentList, DeclaratorList, Statement, SourceElement}
@@ -18,7 +19,7 @@ use Rattle.js_parser.specs.Accepted.{Accepted, Derives, IsOverAt, IsUnlimited, K
 use Rattle.js_parser.specs.Fault.{Begins, Breaks, IsSpent, Fault, Answer}
 use Rattle.js_parser.specs.declared.form.Limits.{Limits}
 use Rattle.js_parser.specs.WellPlaced.{are_placed}
-use Rattle.js_parser.specs.Depth.{depth, nesting}
+use Rattle.js_tree.specs.Depth.{depth, nesting}
 use Rattle.js_parser.specs.Rooms.{unbounded, of_limits}
 use Rattle.js_parser.specs.Machine.{Goes, script, done, stuck, deep}
 

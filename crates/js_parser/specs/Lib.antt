@@ -5,8 +5,6 @@ pub mod Contexts
 pub mod Ends
 pub mod Grammar
 pub mod Bounds
-pub mod Heights
-pub mod Depth
 pub mod Fitting
 pub mod Accepted
 pub mod Fault
@@ -34,3 +32,6 @@ pub mod Parses
 pub use Rattle.js_tree.specs.Tree
 pub use Rattle.js_tree.specs.Plain
 pub use Rattle.js_tree.specs.Numbering
+pub use Rattle.js_tree.specs.Levels
+pub use Rattle.js_tree.specs.Heights
+pub use Rattle.js_tree.specs.Depth

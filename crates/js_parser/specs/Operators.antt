@@ -1,5 +1,5 @@
--- The operators: their tokens, and the levels of the expressions that they make.
-use Rattle.std.specs.Prelude.{ℕ, Bool, true, false, Option, Some, None}
+-- The tokens of operators, and where `in` may operate.
+use Rattle.std.specs.Prelude.{Bool, true, false, Option, Some, None}
 use Rattle.js_lexer.specs.declared.mark.Mark.{Mark}
 use Rattle.js_lexer.specs.declared.mark.Mark.TheVariants as m
 use Rattle.js_lexer.specs.declared.word.Word.TheVariants as w
@@ -13,17 +13,6 @@ use Rattle.js_tree.specs.declared.tree.PostfixOp.{PostfixOp}
 use Rattle.js_tree.specs.declared.tree.PostfixOp.TheVariants as q
 use Rattle.js_tree.specs.Tree.{Expr}
 use Rattle.js_tree.specs.Tree
-
--- an operator between two operands
-pub data Operator : Type 0 where
-  LogicalOr : Operator
-  LogicalAnd : Operator
-  Operation : BinaryOp → Operator
-
-abbrev pub joined : Operator → Expr → Expr → Expr
-joined LogicalOr x y = Tree.Or x y
-joined LogicalAnd x y = Tree.And x y
-joined (Operation op) x y = Tree.Binary op x y
 
 abbrev pub operation_sign : BinaryOp → TokenKind
 operation_sign b.BitOr = k.Mark m.BitOr
@@ -53,45 +42,6 @@ sign LogicalOr = k.Mark m.Or
 sign LogicalAnd = k.Mark m.And
 sign (Operation op) = operation_sign op
 
--- 11.5 to 11.10
-abbrev pub operation_level : BinaryOp → ℕ
-operation_level b.BitOr = 6
-operation_level b.BitXor = 7
-operation_level b.BitAnd = 8
-operation_level b.Equal = 9
-operation_level b.NotEqual = 9
-operation_level b.Same = 9
-operation_level b.NotSame = 9
-operation_level b.Less = 10
-operation_level b.Greater = 10
-operation_level b.LessEqual = 10
-operation_level b.GreaterEqual = 10
-operation_level b.InstanceOf = 10
-operation_level b.In = 10
-operation_level b.ShiftLeft = 11
-operation_level b.ShiftRight = 11
-operation_level b.ShiftRightUnsigned = 11
-operation_level b.Add = 12
-operation_level b.Subtract = 12
-operation_level b.Multiply = 13
-operation_level b.Divide = 13
-operation_level b.Remainder = 13
-
--- 11.11
-abbrev pub level : Operator → ℕ
-level LogicalOr = 4
-level LogicalAnd = 5
-level (Operation op) = operation_level op
-
-abbrev pub is_in : BinaryOp → Bool
-is_in b.In = true
-is_in _ = false
-
--- an operation with `in`
-abbrev pub is_in_operation : Expr → Bool
-is_in_operation (Tree.Binary op left right) = is_in op
-is_in_operation _ = false
-
 -- the operator `in` stands only where it may
 abbrev pub may_operate : Bool → Operator → Bool
 may_operate with_in LogicalOr = true
@@ -110,12 +60,6 @@ prefix_sign p.Plus = k.Mark m.Plus
 prefix_sign p.Minus = k.Mark m.Minus
 prefix_sign p.BitNot = k.Mark m.BitNot
 prefix_sign p.Not = k.Mark m.Not
-
--- `++` and `--` change their operand, which is a target
-abbrev pub changes : PrefixOp → Bool
-changes p.Increment = true
-changes p.Decrement = true
-changes _ = false
 
 -- 11.3
 abbrev pub postfix_sign : PostfixOp → TokenKind

@@ -23,7 +23,8 @@ use Rattle.js_parser.specs.declared.opening.Opening.TheVariants as opening
 use Rattle.js_parser.specs.declared.part.Part.{Part}
 use Rattle.js_parser.specs.declared.part.Part.TheVariants as part
 use Rattle.js_parser.specs.Symbols.{Symbol, Symbols, behind}
-use Rattle.js_parser.specs.Operators.{Operator, joined, level, may_operate, is_target}
+use Rattle.js_tree.specs.Levels.{Operator, joined, level}
+use Rattle.js_parser.specs.Operators.{may_operate, is_target}
 use Rattle.js_parser.specs.Names.{is_eval, is_reference, is_binding, is_property, key_of}
 use Rattle.js_parser.specs.Grammar.{code}
 use Rattle.js_parser.specs.Rooms.{Room, inside, in_function, fits_node, fits_around, fits_function}

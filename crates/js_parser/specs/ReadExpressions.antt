@@ -16,7 +16,8 @@ use Rattle.js_tree.specs.Numbering.{is_function_number}
 use Rattle.js_parser.specs.declared.form.Form.{Form}
 use Rattle.js_parser.specs.declared.form.Form.TheVariants.{Source, Written}
 use Rattle.js_parser.specs.Symbols.{Symbol, Symbols}
-use Rattle.js_parser.specs.Operators.{Operator, LogicalOr, LogicalAnd, Operation, joined, level, may_operate, changes, is_target}
+use Rattle.js_tree.specs.Levels.{Operator, LogicalOr, LogicalAnd, Operation, joined, level, changes}
+use Rattle.js_parser.specs.Operators.{may_operate, is_target}
 use Rattle.js_parser.specs.Names.{get_name, is_eval, is_reference, is_binding, is_property, is_distinct}
 use Rattle.js_parser.specs.Grammar.{code}
 use Rattle.js_parser.specs.Rooms.{Room, inside, in_function, fits_node, fits_around, fits_function}

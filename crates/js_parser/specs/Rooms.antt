@@ -2,8 +2,8 @@
 use Rattle.std.specs.Prelude.{ℕ, suc, ◌-◌, ◌&&◌, nat_le, Bool, true, Option, Some, None}
 use Rattle.js_tree.specs.Tree.{Expr}
 use Rattle.js_parser.specs.declared.form.Limits.{Limits}
-use Rattle.js_parser.specs.Heights.{expr_height}
-use Rattle.js_parser.specs.Depth.{by_nodes}
+use Rattle.js_tree.specs.Heights.{expr_height}
+use Rattle.js_tree.specs.Depth.{by_nodes}
 
 -- None where there is no limit
 pub record Room : Type 0 where

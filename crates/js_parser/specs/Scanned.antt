@@ -11,7 +11,7 @@ use Rattle.js_parser.specs.declared.stop.Stop.{Stop}
 use Rattle.js_parser.specs.declared.stop.Stop.TheVariants.{Broken, Deep, OutOfMemory}
 use Rattle.js_parser.specs.Symbols.{Symbol, Symbols, first, end}
 use Rattle.js_parser.specs.Contexts as context
-use Rattle.js_parser.specs.Depth.{depth, nesting}
+use Rattle.js_tree.specs.Depth.{depth, nesting}
 use Rattle.js_parser.specs.Grammar.{SourceElements}
 use Rattle.js_parser.specs.Rooms.{of_limits}
 use Rattle.js_parser.specs.Machine.{To, done, stuck, deep, source, finished, script, Goes}

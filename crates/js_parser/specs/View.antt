@@ -6,7 +6,7 @@ use Rattle.js_parser.specs.declared.error.ParseError.TheVariants as p
 use Rattle.js_parser.specs.declared.rooms.Room.{Room}
 use Rattle.js_parser.specs.declared.operators.Operator.{Operator}
 use Rattle.js_parser.specs.declared.operators.Operator.TheVariants as op
-use Rattle.js_parser.specs.Operators as operators
+use Rattle.js_tree.specs.Levels as levels
 use Rattle.js_parser.specs.Contexts as contexts
 use Rattle.js_parser.specs.Rooms as rooms
 use Rattle.js_parser.specs.Fault.{Answer, Syntax, Refused, TooDeep, TooMany}
@@ -24,10 +24,10 @@ context c = record {
   ahead = c.ahead;
 }
 
-abbrev pub operator : Operator → operators.Operator
-operator op.LogicalOr = operators.LogicalOr
-operator op.LogicalAnd = operators.LogicalAnd
-operator (op.Operation o) = operators.Operation o
+abbrev pub operator : Operator → levels.Operator
+operator op.LogicalOr = levels.LogicalOr
+operator op.LogicalAnd = levels.LogicalAnd
+operator (op.Operation o) = levels.Operation o
 
 -- what is told of tokens; nothing where memory ends
 abbrev pub told : ParseError → Option Answer

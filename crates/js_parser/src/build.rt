@@ -1,6 +1,6 @@
 //! Nodes of trees from their parts.
 
-ghost use Rattle.js_parser.specs.Operators as operators;
+ghost use Rattle.js_tree.specs.Levels as levels;
 ghost use Rattle.js_parser.specs.Reads.{Makes};
 ghost use Rattle.js_parser.specs.View as view;
 ghost use Rattle.js_tree.specs.Plain.{expr, func, stmt};
@@ -50,7 +50,7 @@ pub fn joined(
     left: Boxed<Expr>,
     right: Boxed<Expr>,
 ) -> Result<Boxed<Expr>, Stop>
-    ensures { Makes expr (operators.joined (view.operator op) (expr left) (expr right)) result }
+    ensures { Makes expr (levels.joined (view.operator op) (expr left) (expr right)) result }
 {
     match op {
         Operator::LogicalOr => Ok(Boxed::new(alloc, Expr::Or(left, right))?),

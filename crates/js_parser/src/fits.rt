@@ -2,9 +2,9 @@
 
 ghost use Rattle.std.specs.Prelude.{◌≡◌, nat_le};
 ghost use Rattle.js_tree.specs.Plain as view;
-ghost use Rattle.js_parser.specs.Depth.{by_nodes};
+ghost use Rattle.js_tree.specs.Depth.{by_nodes};
 ghost use Rattle.js_parser.specs.Fitting as spec;
-ghost use Rattle.js_parser.specs.Heights as heights;
+ghost use Rattle.js_tree.specs.Heights as heights;
 
 use dl_text::{Listed, Units};
 use js_tree::{

@@ -3,7 +3,8 @@
 ghost use Rattle.std.specs.Prelude.{◌≡◌, ◌≤◌, suc};
 ghost use Rattle.std.specs.Option.{option_map};
 ghost use Rattle.js_parser.specs.Machine as rule;
-ghost use Rattle.js_parser.specs.Operators as spec;
+ghost use Rattle.js_tree.specs.Levels as levels;
+ghost use Rattle.js_parser.specs.Operators as operators;
 ghost use Rattle.js_parser.specs.Pieces as pieces;
 ghost use Rattle.js_parser.specs.View as view;
 
@@ -21,7 +22,7 @@ pub enum Operator {
 impl Operator {
     /// How tightly the operator binds its operands.
     pub fn level(self) -> u8
-        ensures is { result ≡ spec.level (view.operator self) }
+        ensures is { result ≡ levels.level (view.operator self) }
         ensures most { result ≤ 13 }
     {
         match self {
@@ -33,14 +34,14 @@ impl Operator {
 
     /// The level of the operand behind the operator, which binds tighter.
     pub fn level_behind(self) -> u8
-        ensures { result ≡ suc (spec.level (view.operator self)) }
+        ensures { result ≡ suc (levels.level (view.operator self)) }
     {
         self.level() + 1
     }
 
     /// Whether the operator may stand there: `in` stands only where it may.
     pub fn may_operate(self, with_in: bool) -> bool
-        ensures { result ≡ spec.may_operate with_in (view.operator self) }
+        ensures { result ≡ operators.may_operate with_in (view.operator self) }
     {
         with_in || !matches!(self, Operator::Operation(BinaryOp::In))
     }
@@ -48,7 +49,7 @@ impl Operator {
 
 /// How tightly an operator binds its operands (ES3 11.5 to 11.10).
 fn operation_level(op: BinaryOp) -> u8
-    ensures is { result ≡ spec.operation_level op }
+    ensures is { result ≡ levels.operation_level op }
     ensures most { result ≤ 13 }
 {
     match op {
@@ -117,7 +118,7 @@ pub fn prefix_of(kind: &TokenKind) -> Option<PrefixOp>
 
 /// Whether a prefix operator changes its operand, as `++` and `--` do.
 pub fn changes(op: PrefixOp) -> bool
-    ensures { result ≡ spec.changes op }
+    ensures { result ≡ levels.changes op }
 {
     matches!(op, PrefixOp::Increment | PrefixOp::Decrement)
 }

@@ -6,7 +6,7 @@ use Rattle.js_lexer.specs.declared.mark.Mark.TheVariants as m
 use Rattle.js_lexer.specs.declared.word.Word.TheVariants as w
 use Rattle.js_parser.specs.declared.form.Form.TheVariants.{Source}
 use Rattle.js_parser.specs.Symbols.{word, mark, name, number}
-use Rattle.js_parser.specs.Operators.{Operation}
+use Rattle.js_tree.specs.Levels.{Operation}
 use Rattle.js_parser.specs.Ends as e
 use Rattle.js_tree.specs.Tree
 use Rattle.js_parser.specs.Grammar as g

@@ -1,7 +1,7 @@
 use Rattle.std.proofs.Common.{nat_le, sym, ap, ◌∙◌, arith}
 use Rattle.js_tree.specs.Plain as view
-use Rattle.js_parser.specs.Depth.{by_nodes}
-use Rattle.js_parser.specs.Heights as heights
+use Rattle.js_tree.specs.Depth.{by_nodes}
+use Rattle.js_tree.specs.Heights as heights
 use Rattle.js_parser.proofs.Fitting.{array_fits, if_fits, for_fits}
 use Rattle.js_parser.proofs.fits.+fits.Goals as goal
 

@@ -5,7 +5,7 @@ use Rattle.js_tree.specs.Tree.{Script}
 use Rattle.js_parser.specs.declared.form.Form.{Form}
 use Rattle.js_parser.specs.Symbols.{Symbol, Symbols, of_kind, end}
 use Rattle.js_parser.specs.Accepted.{Derives}
-use Rattle.grammar_rows.specs.Printed.{Kinds, stmts}
+use Rattle.js_printer.specs.Printed.{Kinds, stmts}
 
 -- on one line
 abbrev pub on_line : TokenKind → Symbol

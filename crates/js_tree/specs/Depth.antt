@@ -1,7 +1,7 @@
 -- How deep a script is, and how many functions stand in one another in it.
 use Rattle.std.specs.Prelude.{ℕ, suc}
 use Rattle.js_tree.specs.Tree.{Script}
-use Rattle.js_parser.specs.Heights.{Growth, stmts_height}
+use Rattle.js_tree.specs.Heights.{Growth, stmts_height}
 
 abbrev pub as_before : ℕ → ℕ
 as_before n = n

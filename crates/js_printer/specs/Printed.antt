@@ -9,8 +9,8 @@ use Rattle.js_lexer.specs.declared.token.TokenKind.{TokenKind}
 use Rattle.js_lexer.specs.declared.token.TokenKind.TheVariants as k
 use Rattle.js_tree.specs.Tree.{Name, Expr, MaybeExpr, Stmt, Func}
 use Rattle.js_tree.specs.Tree
-use Rattle.js_parser.specs.Operators.{sign, level, LogicalOr, LogicalAnd, Operation, is_in_operation, prefix_sign, changes, postfix_sign, assignment}
-use Rattle.js_parser.specs.Names.{get_name}
+use Rattle.js_tree.specs.Levels.{level, LogicalOr, LogicalAnd, Operation, is_in_operation, changes}
+use Rattle.js_printer.specs.Signs.{sign, prefix_sign, postfix_sign, assignment}
 
 abbrev pub Kinds : Type 0
 Kinds = List TokenKind
@@ -158,7 +158,7 @@ abbrev mutual
       operand i 16 target (expr target)
       ++ (k.Mark (assignment_mark (assignment op)) ∷ operand i 2 value (expr value))
   expr (Tree.Late n) i =
-      k.Name (codes "eval") ∷ k.Mark m.OpenParenthesis ∷ k.Name get_name ∷ k.Mark m.OpenParenthesis
+      k.Name (codes "eval") ∷ k.Mark m.OpenParenthesis ∷ k.Name (codes "$dl_get") ∷ k.Mark m.OpenParenthesis
       ∷ k.Number n ∷ k.Mark m.CloseParenthesis ∷ k.Mark m.CloseParenthesis ∷ []
 
   -- arguments, with commas between

@@ -11,7 +11,7 @@ use Rattle.js_lexer.specs.Words.{is_spelled}
 use Rattle.js_lexer.specs.declared.token.TokenKind.{TokenKind}
 use Rattle.js_lexer.specs.declared.token.TokenKind.TheVariants as k
 use Rattle.js_tree.specs.Tree.{Script, Func, Stmts}
-use Rattle.grammar_rows.specs.Printed.{Kinds, enclosed, stmts, func}
+use Rattle.js_printer.specs.Printed.{Kinds, enclosed, stmts, func}
 
 -- how a token is written
 abbrev pub spelled : TokenKind → List ℕ

@@ -18,7 +18,7 @@ use Rattle.js_tree.specs.Tree.{Name}
 use Rattle.js_parser.specs.declared.form.Form.{Form}
 use Rattle.js_tree.specs.Numbering.{is_function_number}
 use Rattle.js_parser.specs.Names.{key_of, may_stand, is_own, is_cell, is_written, is_numeral}
-use Rattle.grammar_rows.specs.Printed.{key_kind}
+use Rattle.js_printer.specs.Printed.{key_kind}
 
 -- ---- numbers
 

@@ -13,17 +13,18 @@ use Rattle.js_tree.specs.Tree.{Name, Expr, Exprs, MaybeExpr, Elements, Pairs, St
 use Rattle.js_tree.specs.Tree
 use Rattle.js_parser.specs.declared.form.Form.{Form}
 use Rattle.js_parser.specs.Symbols.{Symbol, Symbols, word, mark, name, first, end}
-use Rattle.js_parser.specs.Operators.{Operator, LogicalOr, LogicalAnd, Operation, joined, sign, level, operation_level, may_operate, is_in_operation, changes, assignment, postfix_sign}
+use Rattle.js_tree.specs.Levels.{Operator, LogicalOr, LogicalAnd, Operation, joined, level, operation_level, is_in_operation, changes}
+use Rattle.js_parser.specs.Operators.{sign, may_operate, assignment, postfix_sign}
 use Rattle.js_parser.specs.Contexts.{Context}
 use Rattle.js_parser.specs.Ends.{written, semicolon}
 use Rattle.js_parser.specs.Grammar.{Formals, Expression, NewCallee, Arguments, ArgumentList, ElementList, PropertyList, FunctionRest, Declarator, DeclaratorList, OptionalExpression, ForFirst, Block, Statement, StatementList, CaseClauses, SourceElement, SourceElements}
 use Rattle.js_parser.specs.Grammar as g
 use Rattle.js_parser.specs.Accepted.{Derives}
-use Rattle.grammar_rows.specs.Printed.{Kinds, level_of, is_number, is_function, has_call, enclosed, enclosed_if, needs, operand_for, operand, key_kind, assignment_mark, prefix_least, names, begins_as_another, expr, exprs, other_exprs, maybe_expr, elements, pairs, stmt, stmts, for_init, var_items, other_var_items, initialiser, cases}
-use Rattle.grammar_rows.specs.ReadsBack.{on_line, line_of}
+use Rattle.js_printer.specs.Printed.{Kinds, level_of, is_number, is_function, has_call, enclosed, enclosed_if, needs, operand_for, operand, key_kind, assignment_mark, prefix_least, names, begins_as_another, expr, exprs, other_exprs, maybe_expr, elements, pairs, stmt, stmts, for_init, var_items, other_var_items, initialiser, cases}
+use Rattle.cluster_files.specs.ReadsBack.{on_line, line_of}
 use Rattle.js_parser.proofs.Levels.{lower, widen, expression-any}
 use Rattle.js_parser.proofs.NoElse.{list-follows, elements-follow}
-use Rattle.grammar_rows.proofs.Keys.{key_back}
+use Rattle.cluster_files.proofs.Keys.{key_back}
 
 -- ---- lists of tokens
 

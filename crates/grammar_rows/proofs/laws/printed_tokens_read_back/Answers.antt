@@ -1,5 +1,0 @@
-use Rattle.grammar_rows.proofs.PrintedTokens.{read_back}
-use Rattle.grammar_rows.proofs.laws.printed_tokens_read_back.Goals as goal
-
-pub returns : goal.returns
-returns c form tokens tree d = read_back form tokens tree d
