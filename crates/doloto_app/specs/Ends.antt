@@ -11,7 +11,7 @@ use Rattle.play.specs.declared.outcome.FirstFile.{FirstFile}
 use Rattle.play.specs.declared.outcome.FirstFile.TheVariants as first
 use Rattle.play.specs.declared.outcome.FirstError.{FirstError}
 use Rattle.play.specs.declared.outcome.FirstError.TheVariants as error
-use Rattle.js_tree.specs.Tree.{Script}
+use Rattle.js_tree.specs.Tree as tree
 use Rattle.play.specs.declared.manifest.Manifest.{Manifest}
 use Rattle.play.specs.Headline.{ShowsOriginal}
 use Rattle.play.specs.Laziness.{ShowsLoads}
@@ -19,7 +19,8 @@ use Rattle.play.specs.Played.{Answered, Gives, Lacks, Refuses}
 use Rattle.dl_ports.specs.Stores.{AskedNames, and_names, AsksFront}
 use Rattle.doloto_app.specs.declared.status.Status.{Status}
 use Rattle.doloto_app.specs.declared.status.Status.TheVariants.{Ended, Words, Refused, OutOfSteps, ReadFault, WriteFault, OutOfMemory, Missing}
-use Rattle.doloto_app.specs.declared.status.Refusal.TheVariants.{First}
+use Rattle.doloto_app.specs.declared.status.Refusal.TheVariants.{First, Script}
+use Rattle.source_files.specs.FaultTexts.{fault_text}
 use Rattle.doloto_app.specs.declared.words.WordFault.TheVariants as word
 
 -- the numbers of the program's ends
@@ -48,6 +49,8 @@ abbrev pub text_of : Status → List ℕ
 text_of Ended = codes "ended"
 text_of (Words word.First) = codes "words: First"
 text_of (Refused (First file)) = codes "form " ++ file_text file
+text_of (Refused (Script number fault)) =
+    codes "script " ++ (decimal number ++ (codes ": " ++ fault_text fault))
 text_of OutOfSteps = codes "out of steps"
 text_of ReadFault = codes "read fault"
 text_of WriteFault = codes "write fault"
@@ -92,6 +95,7 @@ Ends r asked asked_now taken taken_now Ended =
 Ends r asked asked_now taken taken_now (Words fault) = ⊥
 Ends r asked asked_now taken taken_now (Refused (First file)) =
     (r.answer ≡ Refuses file) × PutsNothing r asked asked_now taken taken_now
+Ends r asked asked_now taken taken_now (Refused (Script number fault)) = ⊥
 Ends r asked asked_now taken taken_now OutOfSteps =
     Reported r asked asked_now taken taken_now end.OutOfSteps
 Ends r asked asked_now taken taken_now ReadFault = Stopped r asked asked_now taken taken_now
@@ -142,7 +146,7 @@ pub record Writes (taken taken_now : Taken) (Is : List ℕ → Type 0) : Type 0 
 
 -- the headline: the report that was written shows the calls of this script's original run under n
 -- steps
-abbrev pub WritesOriginal : Taken → Taken → Script → ℕ → Status → Type 0
+abbrev pub WritesOriginal : Taken → Taken → tree.Script → ℕ → Status → Type 0
 WritesOriginal taken taken_now script n Ended =
     Writes taken taken_now (λ report. ShowsOriginal report end.Ended script n)
 WritesOriginal taken taken_now script n OutOfSteps =
@@ -150,7 +154,7 @@ WritesOriginal taken taken_now script n OutOfSteps =
 WritesOriginal taken taken_now script n _ = Unit {0}
 
 -- laziness: its lines are those of the original's marks, as clusters come
-abbrev pub WritesLoads : Taken → Taken → Manifest → Script → ℕ → Status → Type 0
+abbrev pub WritesLoads : Taken → Taken → Manifest → tree.Script → ℕ → Status → Type 0
 WritesLoads taken taken_now m script n Ended =
     Writes taken taken_now (λ report. ShowsLoads m report end.Ended script n)
 WritesLoads taken taken_now m script n OutOfSteps =

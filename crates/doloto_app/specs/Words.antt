@@ -8,6 +8,8 @@ use Rattle.dl_ports.specs.Stores.{StoreMeaning, Tells}
 pub data Command : Type 0 where
   -- plays the site of a folder for the page of a file
   Play : (site page : List ℕ) → Command
+  -- prints the script of a file
+  Format : (script : List ℕ) → Command
 
 -- a path is neither empty nor begun with `-`
 abbrev pub is_path : List ℕ → Bool
@@ -18,8 +20,14 @@ is_path (b ∷ bs) = not (nat_eq b 45)
 abbrev pub is_two_paths : List ℕ → List ℕ → List ℕ → List ℕ → Bool
 is_two_paths name word first second = bytes_eq word name && (is_path first && is_path second)
 
+-- the words are a name and a path
+abbrev pub is_one_path : List ℕ → List ℕ → List ℕ → Bool
+is_one_path name word path = bytes_eq word name && is_path path
+
 -- the command that words say, by their bytes
 abbrev pub command_of : List (List ℕ) → Option Command
+command_of (word ∷ script ∷ []) =
+    cond (is_one_path (codes "format") word script) (Some (Format script)) None
 command_of (word ∷ site ∷ page ∷ []) =
     cond (is_two_paths (codes "play") word site page) (Some (Play site page)) None
 command_of _ = None

@@ -1,10 +1,13 @@
 //! The program: its commands over the ports of the system.
 //!
-//! `doloto_top` reads the words of the command, plays the site over a store, and writes the report
-//! to a sink; of `play` it may know what `play_page` promises. Main alone makes the ports of the
-//! system, prints why a command was refused, and ends with the status's number.
+//! `doloto_top` reads the words of the command and runs it: `playing` plays a site over a store, and
+//! `formatting` prints a script, each to a sink. They may know what `play_page`, `read_source` and
+//! `print_script` promise. Main alone makes the ports of the system, prints why a command was
+//! refused, and ends with the status's number.
 #![tactic(auto)]
 
+mod formatting;
+mod playing;
 mod status;
 mod top;
 mod words;

@@ -4,6 +4,7 @@ ghost use Rattle.doloto_app.specs.Ends.{number_of, text_of};
 use crate::words::WordFault;
 use dl_text::Text;
 use play::FirstFile;
+use source_files::ScriptFault;
 use std::{fmt, str};
 
 /// Why a file was refused.
@@ -11,6 +12,8 @@ use std::{fmt, str};
 pub enum Refusal {
     /// A file of the first path breaks its form.
     First(FirstFile),
+    /// The script of this number, from 1, is no source script.
+    Script(u32, ScriptFault),
 }
 
 /// How a command ends.
@@ -57,6 +60,9 @@ impl fmt::Display for Status {
             Status::Refused(Refusal::First(FirstFile::Script)) => f.write_str("form s1.js"),
             Status::Refused(Refusal::First(FirstFile::Cluster(cluster))) => {
                 write!(f, "form c{cluster}.txt")
+            }
+            Status::Refused(Refusal::Script(number, fault)) => {
+                write!(f, "script {number}: {fault}")
             }
             Status::OutOfSteps => f.write_str("out of steps"),
             Status::ReadFault => f.write_str("read fault"),

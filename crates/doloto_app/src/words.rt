@@ -1,5 +1,7 @@
-ghost use Rattle.std.specs.Prelude.{◌≡◌, Some, None, MatchOption};
-ghost use Rattle.doloto_app.specs.Words.{Play, is_path, said};
+ghost use Rattle.std.specs.Prelude.{◌≡◌, length};
+ghost use Rattle.std.specs.Option.{option_map};
+ghost use Rattle.doloto_app.specs.Words.{is_path, said};
+ghost use Rattle.doloto_app.specs.Commands.{command};
 
 /// What is wrong with the words of a command.
 #[derive(Clone, Copy, Debug, PartialEq, Eq)]
@@ -18,20 +20,51 @@ fn is_path(word: &str) -> bool
     }
 }
 
-/// The folder of the site and the page's file, where the words are `play` and two paths.
-#[tactic(auto, using(crate::proofs::Counts::three_words, crate::proofs::Counts::other_words))]
-pub fn play_paths<'a>(words: &'a [String]) -> Option<(&'a str, &'a str)>
-    ensures { MatchOption result
-        (said words.now ≡ None)
-        (λ paths. said words.now ≡ Some (Play paths.0.now paths.1.now)) }
+/// A command, with its paths.
+#[derive(Clone, Copy)]
+pub enum Command<'a> {
+    /// Plays the site of a folder for the page of a file.
+    Play { site: &'a str, page: &'a str },
+    /// Prints the script of a file.
+    Format { script: &'a str },
+}
+
+/// `format` and a path.
+#[tactic(auto, using(crate::proofs::Counts::two_words))]
+fn format_command<'a>(words: &'a [String]) -> Option<Command<'a>>
+    requires { length words.now ≡ 2 }
+    ensures { option_map command result ≡ said words.now }
 {
-    if words.len() != 3 {
-        return None;
-    }
-    let (command, site, page) = (words[0].as_str(), words[1].as_str(), words[2].as_str());
-    if command == "play" && is_path(site) && is_path(page) {
-        Some((site, page))
+    let (name, script) = (words[0].as_str(), words[1].as_str());
+    if name == "format" && is_path(script) {
+        Some(Command::Format { script })
     } else {
         None
+    }
+}
+
+/// `play` and two paths.
+#[tactic(auto, using(crate::proofs::Counts::three_words))]
+fn play_command<'a>(words: &'a [String]) -> Option<Command<'a>>
+    requires { length words.now ≡ 3 }
+    ensures { option_map command result ≡ said words.now }
+{
+    let (name, site, page) = (words[0].as_str(), words[1].as_str(), words[2].as_str());
+    if name == "play" && is_path(site) && is_path(page) {
+        Some(Command::Play { site, page })
+    } else {
+        None
+    }
+}
+
+/// The command that words say.
+#[tactic(auto, using(crate::proofs::Counts::other_words))]
+pub fn command<'a>(words: &'a [String]) -> Option<Command<'a>>
+    ensures { option_map command result ≡ said words.now }
+{
+    match words.len() {
+        2 => format_command(words),
+        3 => play_command(words),
+        _ => None,
     }
 }

@@ -1,5 +1,5 @@
 use Rattle.doloto_app.proofs.Whole.{fails_end, puts_end, puts_loads, puts_original}
-use Rattle.doloto_app.proofs.top.play_out.Goals as goal
+use Rattle.doloto_app.proofs.playing.play_out.Goals as goal
 
 pub returns-in-Ok-clause-plays : goal.returns-in-Ok-clause-plays
 returns-in-Ok-clause-plays g c files told = puts_end _ _ _ _ _ _ _ (c.in-Ok.ensures.meets files told) c.write_report.ensures.puts
