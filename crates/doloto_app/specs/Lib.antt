@@ -1,4 +1,4 @@
 pub mod Words
 pub mod Ends
 pub mod Formats
-pub mod Commands
+pub mod View

@@ -1,8 +1,8 @@
 //! The program: its commands over the ports of the system.
 //!
-//! `doloto_top` reads the words of the command and runs it: `playing` plays a site over a store, and
-//! `formatting` prints a script, each to a sink. They may know what `play_page`, `read_source` and
-//! `print_script` promise. Main alone makes the ports of the system, prints why a command was
+//! `doloto_top` reads the words of the command and runs it: `playing` plays a site over a store,
+//! and `formatting` prints a script, each to a sink. They may know what `play_page`, `read_source`
+//! and `print_script` promise. Main alone makes the ports of the system, prints why a command was
 //! refused, and ends with the status's number.
 #![tactic(auto)]
 
@@ -49,5 +49,7 @@ fn main(rt: HostRuntime) -> ExitCode {
     ExitCode::from(status.number())
 }
 
+#[cfg(test)]
+mod format_tests;
 #[cfg(test)]
 mod tests;

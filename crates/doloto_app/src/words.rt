@@ -1,7 +1,7 @@
 ghost use Rattle.std.specs.Prelude.{◌≡◌, length};
 ghost use Rattle.std.specs.Option.{option_map};
 ghost use Rattle.doloto_app.specs.Words.{is_path, said};
-ghost use Rattle.doloto_app.specs.Commands.{command};
+ghost use Rattle.doloto_app.specs.View.{command};
 
 /// What is wrong with the words of a command.
 #[derive(Clone, Copy, Debug, PartialEq, Eq)]
