@@ -44,6 +44,7 @@ fn tell(rt: &(impl Clock + Eprint), what: &str, since: Instant) -> io::Result<()
 fn let_go(_script: Script) {}
 
 /// What is answered of a text.
+#[tactic(auto, using(crate::proofs::Closed::closed))]
 fn answer(rt: &(impl Clock + Eprint), alloc: Global, text: &str) -> io::Result<String>
     requires { length text.now < 2 ^ 32 - 1 }
 {
@@ -69,11 +70,7 @@ fn answer(rt: &(impl Clock + Eprint), alloc: Global, text: &str) -> io::Result<S
 }
 
 /// What is answered of the bytes of a script.
-fn answer_of_bytes(
-    rt: &(impl Clock + Eprint),
-    alloc: Global,
-    bytes: &[u8],
-) -> io::Result<String> {
+fn answer_of_bytes(rt: &(impl Clock + Eprint), alloc: Global, bytes: &[u8]) -> io::Result<String> {
     match text_of(alloc, bytes) {
         Ok(text) => {
             if text.len() >= LIMIT {

@@ -41,6 +41,7 @@ fn seen(alloc: Global, view: View, script: &Script) -> Result<String, AllocError
 }
 
 /// What is answered of a text within limits.
+#[tactic(auto, using(crate::proofs::Closed::closed))]
 fn answer_within(
     rt: &impl Abort,
     alloc: Global,
@@ -103,10 +104,16 @@ fn expressions_have_their_trees(rt: HostRuntime) -> Result<(), Fail> {
         ("[1,,]", "(do (array 1 _))"),
         ("[a=b,c]", "(do (array (= a b) c))"),
         ("x={}", "(do (= x (object)))"),
-        ("x={a:1,'b':2,0x10:c,}", "(do (= x (object \"a\":1 \"b\":2 \"16\":c)))"),
+        (
+            "x={a:1,'b':2,0x10:c,}",
+            "(do (= x (object \"a\":1 \"b\":2 \"16\":c)))",
+        ),
         ("x={a:1,a:2}", "(do (= x (object \"a\":1 \"a\":2)))"),
         ("x=function(){}", "(do (= x (function _ ())))"),
-        ("x=function g(a,b){return a}", "(do (= x (function g (a b) (return a))))"),
+        (
+            "x=function g(a,b){return a}",
+            "(do (= x (function g (a b) (return a))))",
+        ),
         ("a.b.c", "(do (dot (dot a b) c))"),
         ("a[b][c,d]", "(do (index (index a b) (, c d)))"),
         ("a(b)(c,d=e)", "(do (call (call a b) c (= d e)))"),
@@ -129,14 +136,20 @@ fn expressions_have_their_trees(rt: HostRuntime) -> Result<(), Fail> {
             "a||b&&c|d^e&f==g<h<<i+j*k",
             "(do (|| a (&& b (| c (^ d (& e (== f (< g (<< h (+ i (* j k)))))))))))",
         ),
-        ("a*b+c<<d<e==f&g^h|i&&j||k", "(do (|| (&& (| (^ (& (== (< (<< (+ (* a b) c) d) e) f) g) h) i) j) k))"),
+        (
+            "a*b+c<<d<e==f&g^h|i&&j||k",
+            "(do (|| (&& (| (^ (& (== (< (<< (+ (* a b) c) d) e) f) g) h) i) j) k))",
+        ),
         ("a-b+c-d", "(do (- (+ (- a b) c) d))"),
         ("a*b/c%d", "(do (% (/ (* a b) c) d))"),
         ("a<<b>>c>>>d", "(do (>>> (>> (<< a b) c) d))"),
         ("a<b>c<=d>=e", "(do (>= (<= (> (< a b) c) d) e))"),
         ("a instanceof b in c", "(do (in (instanceof a b) c))"),
         ("a==b!=c===d!==e", "(do (!== (=== (!= (== a b) c) d) e))"),
-        ("a|b|c,a^b^c,a&b&c", "(do (, (, (| (| a b) c) (^ (^ a b) c)) (& (& a b) c)))"),
+        (
+            "a|b|c,a^b^c,a&b&c",
+            "(do (, (, (| (| a b) c) (^ (^ a b) c)) (& (& a b) c)))",
+        ),
         ("a&&b&&c", "(do (&& (&& a b) c))"),
         ("a||b||c", "(do (|| (|| a b) c))"),
         ("a-(b-c)", "(do (- a (- b c)))"),
@@ -158,11 +171,20 @@ fn expressions_have_their_trees(rt: HostRuntime) -> Result<(), Fail> {
         ("(function(){})()", "(do (call (function _ ())))"),
         ("({a:1})", "(do (object \"a\":1))"),
         ("a.eval", "(do (dot a eval))"),
-        ("x={eval:1,Infinity:2}", "(do (= x (object \"eval\":1 \"Infinity\":2)))"),
-        ("a.Function(arguments)", "(do (call (dot a Function) arguments))"),
+        (
+            "x={eval:1,Infinity:2}",
+            "(do (= x (object \"eval\":1 \"Infinity\":2)))",
+        ),
+        (
+            "a.Function(arguments)",
+            "(do (call (dot a Function) arguments))",
+        ),
         ("a.arguments=callee", "(do (= (dot a arguments) callee))"),
         ("a[\"callee\"]", "(do (index a \"callee\"))"),
-        ("x={callee:1,caller:2}", "(do (= x (object \"callee\":1 \"caller\":2)))"),
+        (
+            "x={callee:1,caller:2}",
+            "(do (= x (object \"callee\":1 \"caller\":2)))",
+        ),
         ("x=\"$dl_x\"", "(do (= x \"$dl_x\"))"),
         ("dl_$,$dl", "(do (, dl_$ $dl))"),
     ];
@@ -184,58 +206,118 @@ fn statements_have_their_trees(rt: HostRuntime) -> Result<(), Fail> {
         ("{}", "(block)"),
         ("{a;b}", "(block (do a) (do b))"),
         ("var a,b=1,c", "(var a=_ b=1 c=_)"),
-        ("var a=[1,,2,],o={\"if\":1,\"b\":2}", "(var a=(array 1 _ 2) o=(object \"if\":1 \"b\":2))"),
+        (
+            "var a=[1,,2,],o={\"if\":1,\"b\":2}",
+            "(var a=(array 1 _ 2) o=(object \"if\":1 \"b\":2))",
+        ),
         ("if(a)b", "(if a (do b) _)"),
         ("if(a)b;else c", "(if a (do b) (do c))"),
         ("if(a)if(b)c;else d", "(if a (if b (do c) (do d)) _)"),
-        ("if(a)if(b)c;else d;else e", "(if a (if b (do c) (do d)) (do e))"),
-        ("if(a){if(b)c}else d", "(if a (block (if b (do c) _)) (do d))"),
-        ("if(a)while(b)if(c)d;else e", "(if a (while b (if c (do d) (do e))) _)"),
+        (
+            "if(a)if(b)c;else d;else e",
+            "(if a (if b (do c) (do d)) (do e))",
+        ),
+        (
+            "if(a){if(b)c}else d",
+            "(if a (block (if b (do c) _)) (do d))",
+        ),
+        (
+            "if(a)while(b)if(c)d;else e",
+            "(if a (while b (if c (do d) (do e))) _)",
+        ),
         ("do a;while(b)", "(do-while (do a) b)"),
         ("do;while(a);", "(do-while (empty) a)"),
         ("while(a,b)c", "(while (, a b) (do c))"),
         ("for(;;);", "(for _ _ _ (empty))"),
         ("for(a;b;c)d", "(for a b c (do d))"),
-        ("for(var i=0,j;i<n;i++){}", "(for (var i=0 j=_) (< i n) (post++ i) (block))"),
+        (
+            "for(var i=0,j;i<n;i++){}",
+            "(for (var i=0 j=_) (< i n) (post++ i) (block))",
+        ),
         ("for(a in b)c", "(for-in a b (do c))"),
         ("for(a.b in c,d);", "(for-in (dot a b) (, c d) (empty))"),
         ("for((a)in b);", "(for-in a b (empty))"),
-        ("for(a[b in c]in d in e);", "(for-in (index a (in b c)) (in d e) (empty))"),
+        (
+            "for(a[b in c]in d in e);",
+            "(for-in (index a (in b c)) (in d e) (empty))",
+        ),
         ("for(var k in o);", "(for-in (var k=_) o (empty))"),
         ("for(var k=1 in o);", "(for-in (var k=1) o (empty))"),
-        ("for(var i=(1 in x);;);", "(for (var i=(in 1 x)) _ _ (empty))"),
-        ("for(a=[b in c];;);", "(for (= a (array (in b c))) _ _ (empty))"),
-        ("for(a=b?c in d:e;;);", "(for (= a (? b (in c d) e)) _ _ (empty))"),
-        ("for(a=function(){b in c};;);", "(for (= a (function _ () (do (in b c)))) _ _ (empty))"),
-        ("for(;a in b;c in d)e in f", "(for _ (in a b) (in c d) (do (in e f)))"),
-        ("while(a){continue;break}", "(while a (block (continue _) (break _)))"),
+        (
+            "for(var i=(1 in x);;);",
+            "(for (var i=(in 1 x)) _ _ (empty))",
+        ),
+        (
+            "for(a=[b in c];;);",
+            "(for (= a (array (in b c))) _ _ (empty))",
+        ),
+        (
+            "for(a=b?c in d:e;;);",
+            "(for (= a (? b (in c d) e)) _ _ (empty))",
+        ),
+        (
+            "for(a=function(){b in c};;);",
+            "(for (= a (function _ () (do (in b c)))) _ _ (empty))",
+        ),
+        (
+            "for(;a in b;c in d)e in f",
+            "(for _ (in a b) (in c d) (do (in e f)))",
+        ),
+        (
+            "while(a){continue;break}",
+            "(while a (block (continue _) (break _)))",
+        ),
         (
             "x:while(a){continue x;break x}",
             "(label x (while a (block (continue x) (break x))))",
         ),
         ("x:{break x}", "(label x (block (break x)))"),
-        ("x:y:for(;;)continue x", "(label x (label y (for _ _ _ (continue x))))"),
+        (
+            "x:y:for(;;)continue x",
+            "(label x (label y (for _ _ _ (continue x))))",
+        ),
         ("x:{a}x:b", "(label x (block (do a))) (label x (do b))"),
-        ("x:while(a)y:{while(b)continue x}", "(label x (while a (label y (block (while b (continue x))))))"),
+        (
+            "x:while(a)y:{while(b)continue x}",
+            "(label x (while a (label y (block (while b (continue x))))))",
+        ),
         ("arguments:;", "(label arguments (empty))"),
-        ("function f(a){return}", "(declare (function f (a) (return _)))"),
-        ("function f(){return a,b}", "(declare (function f () (return (, a b))))"),
+        (
+            "function f(a){return}",
+            "(declare (function f (a) (return _)))",
+        ),
+        (
+            "function f(){return a,b}",
+            "(declare (function f () (return (, a b))))",
+        ),
         (
             "function f(){function g(){}x:while(a)break x}",
             "(declare (function f () (declare (function g ())) (label x (while a (break x)))))",
         ),
         ("x:function_f:;", "(label x (label function_f (empty)))"),
-        ("x:y=function(){x:;}", "(label x (do (= y (function _ () (label x (empty))))))"),
+        (
+            "x:y=function(){x:;}",
+            "(label x (do (= y (function _ () (label x (empty))))))",
+        ),
         ("switch(a){}", "(switch a)"),
         (
             "switch(a){case b:c;d;case e:default:f}",
             "(switch a (case b (do c) (do d)) (case e) (case _ (do f)))",
         ),
-        ("switch(a){default:break;case 1:}", "(switch a (case _ (break _)) (case 1))"),
+        (
+            "switch(a){default:break;case 1:}",
+            "(switch a (case _ (break _)) (case 1))",
+        ),
         ("throw a", "(throw a)"),
-        ("try{a}catch(e){b}", "(try (block (do a)) e:(block (do b)) _)"),
+        (
+            "try{a}catch(e){b}",
+            "(try (block (do a)) e:(block (do b)) _)",
+        ),
         ("try{}finally{}", "(try (block) _ (block))"),
-        ("try{}catch(e){}finally{a}", "(try (block) e:(block) (block (do a)))"),
+        (
+            "try{}catch(e){}finally{a}",
+            "(try (block) e:(block) (block (do a)))",
+        ),
     ];
     for (text, expected) in trees {
         let source = tree(&rt, alloc, Form::Source, text)?;
@@ -251,7 +333,10 @@ fn semicolons_are_inserted(rt: HostRuntime) -> Result<(), Fail> {
     let alloc = rt.alloc();
     let trees = [
         ("a\n++\nb", "(do a) (do (++ b))"),
-        ("function f(){return\nx}", "(declare (function f () (return _) (do x)))"),
+        (
+            "function f(){return\nx}",
+            "(declare (function f () (return _) (do x)))",
+        ),
         ("a\n(b)", "(do (call a b))"),
         ("a\nb", "(do a) (do b)"),
         ("a/*\n*/b", "(do a) (do b)"),
@@ -274,9 +359,18 @@ fn semicolons_are_inserted(rt: HostRuntime) -> Result<(), Fail> {
         ("do{}while(a)", "(do-while (block) a)"),
         ("do;while(a)\n(b)", "(do-while (empty) a) (do b)"),
         ("for(a\n;b\n;c);", "(for a b c (empty))"),
-        ("x:while(a){continue\nx}", "(label x (while a (block (continue _) (do x))))"),
-        ("x:while(a){break\nx}", "(label x (while a (block (break _) (do x))))"),
-        ("x:while(a){break x\nb}", "(label x (while a (block (break x) (do b))))"),
+        (
+            "x:while(a){continue\nx}",
+            "(label x (while a (block (continue _) (do x))))",
+        ),
+        (
+            "x:while(a){break\nx}",
+            "(label x (while a (block (break _) (do x))))",
+        ),
+        (
+            "x:while(a){break x\nb}",
+            "(label x (while a (block (break x) (do b))))",
+        ),
         ("throw a\nb", "(throw a) (do b)"),
         ("a;;", "(do a) (empty)"),
         ("if(a)\n;b", "(if a (empty) _) (do b)"),
@@ -345,8 +439,14 @@ fn each_construct_is_told_at_its_place(rt: HostRuntime) -> Result<(), Fail> {
         ("do function f(){}while(a)", "Construct FunctionPlace 1:4"),
         ("for(;;)function f(){}", "Construct FunctionPlace 1:8"),
         ("a:function f(){}", "Construct FunctionPlace 1:3"),
-        ("switch(a){case 1:function f(){}}", "Construct FunctionPlace 1:18"),
-        ("try{function f(){}}finally{}", "Construct FunctionPlace 1:5"),
+        (
+            "switch(a){case 1:function f(){}}",
+            "Construct FunctionPlace 1:18",
+        ),
+        (
+            "try{function f(){}}finally{}",
+            "Construct FunctionPlace 1:5",
+        ),
         ("a function f(){}", "Construct FunctionPlace 1:3"),
         ("function f(a,b,a){}", "Construct RepeatedFormal 1:16"),
         ("x=function(a,a){}", "Construct RepeatedFormal 1:14"),
@@ -366,21 +466,41 @@ fn texts_of_a_site_have_entries_and_cells(rt: HostRuntime) -> Result<(), Fail> {
     let alloc = rt.alloc();
     let answers = [
         ("eval($dl_get(7))", "Construct Eval 1:1", "(do late#7)"),
-        ("eval($dl_get(65535))", "Construct Eval 1:1", "(do late#65535)"),
+        (
+            "eval($dl_get(65535))",
+            "Construct Eval 1:1",
+            "(do late#65535)",
+        ),
         ("x=eval", "Construct Eval 1:3", "Syntax 1:7"),
         ("x=eval(1)", "Construct Eval 1:3", "Syntax 1:8"),
         ("x=eval($dl_get)", "Construct Eval 1:3", "Syntax 1:15"),
         ("x=eval($dl_get(0))", "Construct Eval 1:3", "Syntax 1:16"),
-        ("x=eval($dl_get(65536))", "Construct Eval 1:3", "Syntax 1:16"),
+        (
+            "x=eval($dl_get(65536))",
+            "Construct Eval 1:3",
+            "Syntax 1:16",
+        ),
         ("x=eval($dl_get(0x2))", "Construct Eval 1:3", "Syntax 1:16"),
         ("x=eval($dl_get(a))", "Construct Eval 1:3", "Syntax 1:16"),
         ("x=eval($dl_get(1,2))", "Construct Eval 1:3", "Syntax 1:17"),
         ("x=eval($dl_get(1)+1)", "Construct Eval 1:3", "Syntax 1:18"),
-        ("x=eval($dl_r1)", "Construct Eval 1:3", "Construct DlName 1:8"),
+        (
+            "x=eval($dl_r1)",
+            "Construct Eval 1:3",
+            "Construct DlName 1:8",
+        ),
         ("eval:;", "Construct Eval 1:1", "Syntax 1:5"),
         ("$dl_r1", "Construct DlName 1:1", "(do $dl_r1)"),
-        ("$dl_r65535=a", "Construct DlName 1:1", "(do (= $dl_r65535 a))"),
-        ("var a,$dl_r2;", "Construct DlName 1:7", "(var a=_ $dl_r2=_)"),
+        (
+            "$dl_r65535=a",
+            "Construct DlName 1:1",
+            "(do (= $dl_r65535 a))",
+        ),
+        (
+            "var a,$dl_r2;",
+            "Construct DlName 1:7",
+            "(var a=_ $dl_r2=_)",
+        ),
         ("$dl_r1:;", "Construct DlName 1:1", "(label $dl_r1 (empty))"),
         ("a.$dl_r1", "Construct DlName 1:3", "(do (dot a $dl_r1))"),
         (
@@ -526,7 +646,11 @@ fn meet_and_pass(
     assert_eq!(rt; met.as_str(), "accepted", "{most} of {piece:?}");
     let text = nested(alloc, nest, most.saturating_add(1))?;
     let passed = told(rt, alloc, form, text.as_str())?;
-    assert_eq!(rt; passed.as_str(), "TooDeep 1:1", "one more than {most} of {piece:?}");
+    assert_eq!(rt;
+        passed.as_str(),
+        "TooDeep 1:1",
+        "one more than {most} of {piece:?}"
+    );
     Ok(())
 }
 
@@ -609,7 +733,11 @@ fn a_function_too_many_is_told_first(rt: HostRuntime) -> Result<(), Fail> {
         (1, "if(a)function f(){}", "Construct FunctionPlace 1:6"),
         (1, "a(function(){},function(){})", "TooMany 1:16"),
         (2, "a(function(){},function(){})", "accepted"),
-        (2, "function f(){function g(){x=function(){}}}", "TooMany 1:29"),
+        (
+            2,
+            "function f(){function g(){x=function(){}}}",
+            "TooMany 1:29",
+        ),
     ];
     for (functions, text, expected) in texts {
         for form in [Form::Source, Form::Written] {
@@ -618,7 +746,11 @@ fn a_function_too_many_is_told_first(rt: HostRuntime) -> Result<(), Fail> {
                 ..limits_of(form)
             };
             let answer = answer_within(&rt, alloc, View::Acceptance, &limits, form, text)?;
-            assert_eq!(rt; answer.as_str(), expected, "{functions} functions in {text:?}");
+            assert_eq!(rt;
+                answer.as_str(),
+                expected,
+                "{functions} functions in {text:?}"
+            );
         }
     }
     Ok(())
@@ -643,7 +775,11 @@ fn too_deep_is_told_of_a_statement_of_the_script(rt: HostRuntime) -> Result<(), 
     for (front, piece, times, back, expected) in texts {
         let text = repeated(alloc, front, piece, times, back)?;
         let answer = told(&rt, alloc, Form::Source, text.as_str())?;
-        assert_eq!(rt; answer.as_str(), expected, "{times} of {piece:?} behind {front:?}");
+        assert_eq!(rt;
+            answer.as_str(),
+            expected,
+            "{times} of {piece:?} behind {front:?}"
+        );
     }
     Ok(())
 }
