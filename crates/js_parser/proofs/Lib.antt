@@ -71,3 +71,4 @@ pub mod DeepPlaces
 pub mod Scans
 pub mod Parsed
 pub mod Fitting
+pub mod ClosedTokens

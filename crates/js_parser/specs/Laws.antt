@@ -14,6 +14,8 @@ use Rattle.js_parser.specs.Contexts.{Context}
 use Rattle.js_parser.specs.Ends.{ends_changed}
 use Rattle.js_parser.specs.Grammar.{Formals, Expression, ArgumentList, DeclaratorList, Statement, SourceElement}
 use Rattle.js_lexer.specs.declared.token.Token.{Token}
+use Rattle.js_lexer.specs.Tokens.{IsTokens}
+use Rattle.js_parser.specs.Parses.{IsClosed}
 use Rattle.js_tree.specs.Numbering.{in_stmts}
 use Rattle.js_parser.specs.Accepted.{Accepted, Derives, IsOverAt, IsUnlimited, Keeps, functions_in, opened}
 use Rattle.js_parser.specs.Fault.{Begins, Breaks, IsSpent, Fault, Answer}
@@ -242,3 +244,8 @@ AcceptedOrAFault =
     (form : Form) (limits : Limits) (tokens : List Token) (last : Token) → last.kind ≡ k.End
     → ((tree : Script) × Accepted form limits (symbols (tokens ++ (last ∷ []))) tree)
     ⊎ ((told : Answer) × Fault form limits (tokens ++ (last ∷ [])) told)
+
+-- The end closes the tokens of every text.
+abbrev pub TokensOfTextsAreClosed : Type 0
+TokensOfTextsAreClosed =
+    (text : List ℕ) (tokens : List Token) → IsTokens text tokens → IsClosed tokens

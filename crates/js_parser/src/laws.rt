@@ -125,3 +125,8 @@ pub fn spent_where_there_is_no_room()
 pub fn accepted_or_a_fault()
     ensures { law.AcceptedOrAFault }
 {}
+
+/// The end closes the tokens of every text, as `parse` asks.
+pub fn tokens_of_texts_are_closed()
+    ensures { law.TokensOfTextsAreClosed }
+{}

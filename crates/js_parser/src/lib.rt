@@ -59,6 +59,6 @@ pub use laws::{
     limits_break_in_a_statement, none_is_inserted_where_the_next_fits, one_breaking_token,
     one_list_of_formals, one_tree, one_tree_of_a_token, scripts_are_read, scripts_do_not_break,
     spent_where_there_is_no_room, stuck_at_the_breaking_token, targets_rise, tokens_are_placed,
-    what_is_read_begins_a_script, what_is_read_is_a_script,
+    tokens_of_texts_are_closed, what_is_read_begins_a_script, what_is_read_is_a_script,
 };
 pub use parsing::parse;

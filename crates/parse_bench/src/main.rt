@@ -44,7 +44,7 @@ fn tell(rt: &(impl Clock + Eprint), what: &str, since: Instant) -> io::Result<()
 fn let_go(_script: Script) {}
 
 /// What is answered of a text.
-#[tactic(auto, using(crate::proofs::Closed::closed))]
+#[tactic(auto, using(js_parser::proofs::ClosedTokens::closed))]
 fn answer(rt: &(impl Clock + Eprint), alloc: Global, text: &str) -> io::Result<String>
     requires { length text.now < 2 ^ 32 - 1 }
 {

@@ -41,7 +41,7 @@ fn seen(alloc: Global, view: View, script: &Script) -> Result<String, AllocError
 }
 
 /// What is answered of a text within limits.
-#[tactic(auto, using(crate::proofs::Closed::closed))]
+#[tactic(auto, using(js_parser::proofs::ClosedTokens::closed))]
 fn answer_within(
     rt: &impl Abort,
     alloc: Global,

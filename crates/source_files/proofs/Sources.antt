@@ -1,6 +1,5 @@
 -- What holds of the bytes of source scripts.
 use Rattle.std.proofs.Common.{◌≡◌, ℕ, ◌≤◌, ◌<◌, nat_lt, Bool, true, false, List, [], ◌∷◌, ◌++◌, length, Result, Ok, Err, refl, ap, sym, ◌∙◌, subst, ◌⊎◌, inl, inr, arith}
-use Rattle.std.proofs.lemmas.List.{append_assoc}
 use Rattle.std.proofs.lemmas.Bool.{ltb-true, ltb-false}
 use Rattle.std.proofs.lemmas.Str.{IsUtf8-from_is_utf8, is_utf8-from_IsUtf8}
 use Rattle.std.specs.Str.{IsUtf8, is_utf8, chars}
@@ -8,8 +7,7 @@ use Rattle.std.specs.Str.Lossy.{utf8_valid_len}
 use Rattle.dl_text.specs.declared.place.Place.{Place}
 use Rattle.js_lexer.specs.declared.token.LexKind.{LexKind}
 use Rattle.js_lexer.specs.declared.token.Token.{Token}
-use Rattle.js_lexer.specs.Tokens.{Piece, IsTokens, IsLexFault, token, tokens_of, tokens_behind, gap_after}
-use Rattle.js_lexer.specs.declared.token.TokenKind.TheVariants.{End}
+use Rattle.js_lexer.specs.Tokens.{IsTokens, IsLexFault}
 use Rattle.js_lexer.proofs.OneCut as lexer
 use Rattle.js_parser.specs.Accepted.{Accepted}
 use Rattle.js_parser.specs.Fault as parser
@@ -18,6 +16,7 @@ use Rattle.js_parser.specs.Parses.{IsClosed}
 use Rattle.js_parser.specs.Symbols.{symbols}
 use Rattle.js_parser.specs.declared.form.Form.TheVariants.{Source}
 use Rattle.js_parser.proofs.AcceptedOrFault.{answered}
+use Rattle.js_parser.proofs.ClosedTokens.{closed}
 use Rattle.js_parser.proofs.NoFault.{no_fault}
 use Rattle.js_parser.proofs.OneTree as trees
 use Rattle.js_tree.specs.Tree as tree
@@ -30,25 +29,6 @@ use Rattle.source_files.specs.declared.fault.SourceError.TheVariants as error
 use Rattle.source_files.specs.declared.room.SourceRoom.{SourceRoom}
 use Rattle.source_files.specs.Reading.{Gives, IsTree}
 use Rattle.source_files.specs.Sources.{Fits, HasTokens, IsSource, IsTold, IsRefused, limits}
-
--- ---- the end closes the tokens of a text
-
-closed-behind : (before tokens : List Token) → IsClosed tokens → IsClosed (before ++ tokens)
-closed-behind before tokens c = record {
-  before = before ++ c.before;
-  last = c.last;
-  whole = ap (λ t. before ++ t) c.whole ∙ sym (append_assoc before c.before (c.last ∷ []));
-  is = c.is;
-}
-
-closed-pieces : (start : ℕ) (before gap : List ℕ) (pieces : List Piece) → IsClosed (tokens_behind start before gap pieces)
-closed-pieces start before gap [] = record { before = []; last = token start before gap [] End; whole = refl; is = refl }
-closed-pieces start before gap (p ∷ ps) =
-    closed-behind (tokens_of start before gap p.characters p.kind) (tokens_behind start (before ++ p.characters) (gap_after gap p.characters p.kind) ps)
-    (closed-pieces start (before ++ p.characters) (gap_after gap p.characters p.kind) ps)
-
-pub closed : {text : List ℕ} {tokens : List Token} → IsTokens text tokens → IsClosed tokens
-closed t = subst IsClosed (sym t.are) (closed-pieces _ _ _ t.pieces)
 
 -- ---- one tree, or a refusal
 

@@ -17,6 +17,7 @@ use std::alloc::Global;
 use std::str;
 
 /// The tree of the script of this text.
+#[tactic(auto, using(js_parser::proofs::ClosedTokens::closed))]
 fn script_of(alloc: Global, text: &str, room: SourceRoom) -> Result<Script, SourceError>
     requires bounded { room.bytes ≤ most_source_bytes }
     requires fits { Fits room text.now }
