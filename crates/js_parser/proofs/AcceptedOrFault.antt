@@ -1,9 +1,8 @@
 -- A list of tokens that ends with the end is an accepted script, or something may be told of it.
-use Rattle.std.proofs.Common.{◌≡◌, ◌≢◌, ◌≤◌, ◌<◌, ◌⊎◌, inl, inr, ℕ, suc, ◌+◌, ◌-◌, nat_le, ◌&&◌, Bool, true, false, List, [], ◌∷◌, ◌++◌, length, refl, ap, sym, ◌∙◌, subst, arith}
+use Rattle.std.proofs.Common.{◌≡◌, ◌≢◌, ◌≤◌, ◌<◌, ◌⊎◌, inl, inr, ℕ, ◌-◌, nat_le, ◌&&◌, Bool, true, false, List, [], ◌∷◌, ◌++◌, length, refl, ap, sym, ◌∙◌, subst, arith}
 use Rattle.std.proofs.lemmas.List.{append_assoc, append-nil, map-append, length-map}
 use Rattle.std.proofs.lemmas.Bool.{leb-true, leb-false}
 use Rattle.js_lexer.specs.declared.token.Token.{Token}
-use Rattle.js_lexer.specs.declared.token.TokenKind.{TokenKind}
 use Rattle.js_lexer.specs.declared.token.TokenKind.TheVariants as k
 use Rattle.js_lexer.specs.declared.word.Word.TheVariants as w
 use Rattle.js_tree.specs.Tree.{Script}
@@ -16,7 +15,7 @@ use Rattle.js_parser.specs.Accepted.{Derives, IsUnlimited, Accepted, Keeps, IsOv
 use Rattle.js_parser.specs.Fault.{Begins, Breaks, Fault, Answer, answer}
 use Rattle.js_parser.specs.Fault as fault
 use Rattle.js_parser.specs.Rooms.{unbounded}
-use Rattle.js_parser.specs.Machine.{State, done, stuck, deep, Goes, script}
+use Rattle.js_parser.specs.Machine.{State, stuck, deep, Goes, script}
 use Rattle.js_parser.proofs.Levels.{element-any}
 use Rattle.js_parser.proofs.Counts.{functions-join}
 use Rattle.js_parser.proofs.BrokenLimits.{somewhere}

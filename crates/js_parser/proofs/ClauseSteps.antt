@@ -11,7 +11,7 @@ use Rattle.js_parser.specs.declared.form.Form.{Form}
 use Rattle.js_parser.specs.Symbols.{Symbols, behind}
 use Rattle.js_parser.specs.Contexts.{Context}
 use Rattle.js_parser.specs.Rooms.{Room}
-use Rattle.js_parser.specs.Machine.{State, To, stuck, guard, expect, is_colon, comma, list, clauses, clauses_by, Goes, here, then_on}
+use Rattle.js_parser.specs.Machine.{State, To, stuck, expect, is_colon, comma, list, clauses, clauses_by, Goes, here, then_on}
 use Rattle.js_parser.specs.StatementPieces.{clause_test, and_clause, is_case, begins_clause}
 use Rattle.js_parser.specs.Reads.{at}
 use Rattle.js_parser.proofs.Runs.{stepped}

@@ -1,5 +1,5 @@
 -- The end closes the tokens of every text.
-use Rattle.std.proofs.Common.{◌≡◌, ℕ, List, [], ◌∷◌, ◌++◌, refl, ap, sym, ◌∙◌, subst}
+use Rattle.std.proofs.Common.{ℕ, List, [], ◌∷◌, ◌++◌, refl, ap, sym, ◌∙◌, subst}
 use Rattle.std.proofs.lemmas.List.{append_assoc}
 use Rattle.js_lexer.specs.Tokens.{Piece, IsTokens, token, tokens_of, tokens_behind, gap_after}
 use Rattle.js_lexer.specs.declared.token.Token.{Token}

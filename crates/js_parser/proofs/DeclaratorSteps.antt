@@ -1,6 +1,6 @@
 -- The steps of the machine at names that are bound, declarators and optional expressions, by what
 -- the parser asks of the tokens.
-use Rattle.std.proofs.Common.{◌≡◌, Bool, true, false, List, [], ◌∷◌, ◌++◌, Option, Some, None, Result, Ok, Err, refl, ap, sym, ◌∙◌, subst}
+use Rattle.std.proofs.Common.{◌≡◌, Bool, true, false, List, [], ◌∷◌, ◌++◌, Some, None, Result, Ok, Err, refl, ap, sym, ◌∙◌, subst}
 use Rattle.std.specs.Prelude.{IfOk, IfErr}
 use Rattle.std.proofs.Math.Path.{fun_ext}
 use Rattle.js_lexer.specs.declared.mark.Mark.TheVariants as m
@@ -19,7 +19,7 @@ use Rattle.js_parser.specs.Marks.{is_comma, is_assign}
 use Rattle.js_parser.specs.Machine.{State, To, stuck, guard, comma, assign, optional, optional_by, declarators, declarator_by, declarators_by, after_declarator, initialiser, initialiser_by, Goes, here, then_on}
 use Rattle.js_parser.specs.Machine as rule
 use Rattle.js_parser.specs.Pieces.{first_as}
-use Rattle.js_parser.specs.StatementPieces.{binding, binding_by, initial_value, initial_value_by, declarator, and_declarator, more_declarators, more_declarators_by, name_of, is_any, ends_optional}
+use Rattle.js_parser.specs.StatementPieces.{binding, binding_by, initial_value, initial_value_by, and_declarator, more_declarators, more_declarators_by, name_of, is_any, ends_optional}
 use Rattle.js_parser.specs.Reads.{at, Makes}
 use Rattle.js_parser.proofs.Runs.{onwards, stepped, allowed}
 

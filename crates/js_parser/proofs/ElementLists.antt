@@ -17,7 +17,7 @@ use Rattle.js_parser.specs.Symbols.{Symbol, Symbols, word, name, first}
 use Rattle.js_parser.specs.Contexts.{Context}
 use Rattle.js_parser.specs.Contexts as context
 use Rattle.js_tree.specs.Heights.{Growth, stmt_height, stmts_height}
-use Rattle.js_tree.specs.Depth.{depth, nesting, by_nodes, by_functions}
+use Rattle.js_tree.specs.Depth.{by_nodes, by_functions}
 use Rattle.js_parser.specs.Grammar.{Statement, SourceElement, SourceElements}
 use Rattle.js_parser.specs.Grammar as g
 use Rattle.js_parser.specs.Rooms.{Room, of_limits, fits_function}

@@ -1,6 +1,6 @@
 -- The steps of the machine at lists of statements, of source elements and of clauses, by what the
 -- parser asks of the tokens.
-use Rattle.std.proofs.Common.{◌≡◌, Bool, true, false, ◌&&◌, ◌||◌, not, List, [], ◌∷◌, ◌++◌, Option, Some, None, refl, ap, sym, ◌∙◌, subst}
+use Rattle.std.proofs.Common.{◌≡◌, true, false, List, [], ◌∷◌, ◌++◌, Some, refl, ap, sym, subst}
 use Rattle.std.proofs.Math.Path.{fun_ext}
 use Rattle.js_lexer.specs.declared.mark.Mark.TheVariants as m
 use Rattle.js_lexer.specs.declared.word.Word.TheVariants as w
@@ -11,7 +11,7 @@ use Rattle.js_tree.specs.Tree
 use Rattle.js_tree.specs.Plain.{CasePart}
 use Rattle.js_tree.specs.Plain as plain
 use Rattle.js_parser.specs.declared.form.Form.{Form}
-use Rattle.js_parser.specs.Symbols.{Symbol, Symbols, behind}
+use Rattle.js_parser.specs.Symbols.{Symbols, behind}
 use Rattle.js_parser.specs.Contexts.{Context}
 use Rattle.js_parser.specs.Names.{is_binding}
 use Rattle.js_parser.specs.Grammar.{code}
@@ -19,9 +19,9 @@ use Rattle.js_parser.specs.Rooms.{Room, in_function, fits_function}
 use Rattle.js_parser.specs.Machine.{State, To, stuck, guard, fitting, expect, is_colon, comma, statement, list, source, clauses, list_by, source_by, declared, declared_by, clauses_by, Goes, here, then_on}
 use Rattle.js_parser.specs.Machine as rule
 use Rattle.js_parser.specs.Pieces.{function_rule}
-use Rattle.js_parser.specs.StatementPieces.{binding, binding_by, and_statement, and_declared, and_element, and_element_by, clause_test, and_clause, is_function, is_case, begins_clause, goes_on_list, goes_on_elements}
+use Rattle.js_parser.specs.StatementPieces.{binding, binding_by, and_statement, and_declared, and_element, and_element_by, is_function, goes_on_list, goes_on_elements}
 use Rattle.js_parser.specs.Reads.{at}
-use Rattle.js_parser.proofs.Runs.{onwards, stepped, allowed}
+use Rattle.js_parser.proofs.Runs.{stepped}
 
 -- ---- statements
 

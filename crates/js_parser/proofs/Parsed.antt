@@ -15,7 +15,7 @@ use Rattle.js_parser.specs.Fault.{Fault, TooDeep, answer}
 use Rattle.js_parser.specs.Grammar.{SourceElements}
 use Rattle.js_parser.specs.Elements.{element}
 use Rattle.js_parser.specs.Rooms.{of_limits}
-use Rattle.js_parser.specs.Machine.{State, To, done, stuck, deep, Goes, script}
+use Rattle.js_parser.specs.Machine.{To, done, stuck, deep, Goes, script}
 use Rattle.js_parser.specs.Scanned.{Begun, Within, Scanned}
 use Rattle.js_parser.specs.Scanned as scanned
 use Rattle.js_parser.specs.Parses.{IsClosed, MayBeTold, Parses, IsTree}

@@ -1,6 +1,6 @@
 -- What has a tree by the grammar is read by the machine, where there is room for the tree: the
 -- whole grammar.
-use Rattle.std.proofs.Common.{◌≡◌, ◌≤◌, ◌<◌, Bool, true, false, not, ◌||◌, List, [], ◌∷◌, ◌++◌, Some, None, codes, refl, ap, sym, ◌∙◌, subst, arith, lit≤, lit<, ℕ}
+use Rattle.std.proofs.Common.{◌≡◌, ◌<◌, Bool, true, false, not, ◌||◌, List, [], ◌∷◌, ◌++◌, Some, None, codes, refl, ap, sym, ◌∙◌, subst, arith, lit≤, lit<, ℕ}
 use Rattle.std.proofs.lemmas.List.{append_assoc}
 use Rattle.js_lexer.specs.declared.mark.Mark.TheVariants as m
 use Rattle.js_lexer.specs.declared.word.Word.TheVariants as w

@@ -15,7 +15,7 @@ use Rattle.js_parser.specs.Symbols.{Symbol, Symbols, are_regular, first, end, be
 use Rattle.js_parser.specs.Contexts.{Context}
 use Rattle.js_parser.specs.Contexts as context
 use Rattle.js_parser.specs.Rooms.{Room, of_limits, fits_function}
-use Rattle.js_parser.specs.Machine.{State, To, done, stuck, deep, source, source_by, finished, finished_by, script, is_end, guard, fitting, step, Goes, here, then_on}
+use Rattle.js_parser.specs.Machine.{State, To, done, stuck, deep, source, source_by, finished, finished_by, script, is_end, guard, fitting, step, Goes, here}
 use Rattle.js_parser.specs.Elements.{element, element_by}
 use Rattle.js_parser.specs.StatementPieces.{goes_on_elements}
 use Rattle.js_parser.specs.Reads.{at, Comes}

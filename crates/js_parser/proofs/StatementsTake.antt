@@ -1,17 +1,17 @@
 -- A statement takes one token at least.
-use Rattle.std.proofs.Common.{Result, Ok, Err, ◌≡◌, ℕ, suc, ◌<◌, nat_lt, Bool, true, false, [], ◌∷◌, ◌++◌, length, refl, ap, sym, ◌∙◌, subst, arith}
+use Rattle.std.proofs.Common.{Result, Ok, Err, ◌≡◌, ◌<◌, nat_lt, Bool, true, false, [], ◌∷◌, length, refl, ap, sym, ◌∙◌, subst, arith}
 use Rattle.std.specs.Prelude.{IfOk}
 use Rattle.std.proofs.lemmas.Bool.{lt-ltb, ltb-true}
 use Rattle.std.proofs.lemmas.List.{length-append}
 use Rattle.js_tree.specs.Tree.{Stmt, NoStmts}
 use Rattle.js_parser.specs.declared.form.Form.{Form}
 use Rattle.js_parser.specs.declared.stop.Stop.{Stop}
-use Rattle.js_parser.specs.Symbols.{Symbol, Symbols, end}
+use Rattle.js_parser.specs.Symbols.{Symbols, end}
 use Rattle.js_parser.specs.Contexts.{Context}
 use Rattle.js_parser.specs.Rooms.{Room}
 use Rattle.js_parser.specs.Machine.{State, To, done, stuck, deep, statement, Goes}
 use Rattle.js_parser.proofs.Runs.{one_end}
-use Rattle.js_parser.proofs.RunsEnd.{Whole, Rest, Ends, Good, Last, with_tree, stuck_at, deep_at, at-done}
+use Rattle.js_parser.proofs.RunsEnd.{Whole, Rest, Ends, Last, with_tree, stuck_at, deep_at, at-done}
 use Rattle.js_parser.proofs.RunsEndStatements.{ending}
 use Rattle.js_parser.proofs.RunsEndStatements as ends
 

@@ -1,13 +1,13 @@
 -- How runs of the machine are put together where the parser's rules call one another.
-use Rattle.std.proofs.Common.{◌≡◌, ℕ, Bool, true, false, not, Result, Ok, Err, [], ◌∷◌, refl, ap, sym, ◌∙◌, subst}
+use Rattle.std.proofs.Common.{◌≡◌, Bool, true, false, Result, Ok, Err, [], ◌∷◌, sym, subst}
 use Rattle.js_parser.specs.declared.form.Form.{Form}
 use Rattle.js_parser.specs.declared.stop.Stop.{Stop}
 use Rattle.js_parser.specs.declared.stop.Stop.TheVariants.{Broken, Deep, OutOfMemory}
 use Rattle.js_lexer.specs.declared.token.TokenKind.{TokenKind}
 use Rattle.js_parser.specs.Symbols.{Symbols, behind}
-use Rattle.js_parser.specs.Machine.{State, To, stuck, deep, guard, fitting, expect, step, Goes, here, then_on}
+use Rattle.js_parser.specs.Machine.{State, To, stuck, deep, guard, fitting, expect, Goes, here}
 use Rattle.js_parser.specs.Reads.{Comes, goes_on, is_stuck, has_no_room, is_unknown, Makes, at}
-use Rattle.js_parser.proofs.Runs.{onwards, allowed, fitted}
+use Rattle.js_parser.proofs.Runs.{onwards, allowed}
 
 -- behind a run
 pub after : {A : Type 0} {form : Form} {s t : State} {on : A → State} {left : Symbols} {r : Result A Stop} → Goes form s t → Comes form t on left r → Comes form s on left r

@@ -1,5 +1,5 @@
 -- How expressions, functions and declarators are read (ES3 sections 11, 12.2 and 13).
-use Rattle.std.specs.Prelude.{if◌then◌else◌, ℕ, suc, nat_le, ◌&&◌, ◌||◌, not, Bool, true, false, List, [], ◌∷◌, ◌++◌, Option, Some, None}
+use Rattle.std.specs.Prelude.{if◌then◌else◌, ℕ, suc, nat_le, ◌&&◌, Bool, true, false, List, [], ◌∷◌, ◌++◌, Option, Some, None}
 use Rattle.js_lexer.specs.declared.mark.Mark.TheVariants as m
 use Rattle.js_lexer.specs.declared.word.Word.TheVariants as w
 use Rattle.js_lexer.specs.declared.token.TokenKind.{TokenKind}
@@ -21,7 +21,7 @@ use Rattle.js_parser.specs.Operators.{may_operate, is_target}
 use Rattle.js_parser.specs.Names.{get_name, is_eval, is_reference, is_binding, is_property, is_distinct}
 use Rattle.js_parser.specs.Grammar.{code}
 use Rattle.js_parser.specs.Rooms.{Room, inside, in_function, fits_node, fits_around, fits_function}
-use Rattle.js_parser.specs.States.{State, stuck, comma, comma_tail, assign, choice, climb, tail, unary, postfix, operand, links, arguments, argument_list, elements, pairs, rest, formal, declarator, declarators, To, guard, fitting, expect, is_open_parenthesis, is_close_parenthesis, is_close_bracket, is_close_brace, is_colon}
+use Rattle.js_parser.specs.States.{State, stuck, comma, comma_tail, assign, climb, tail, unary, postfix, operand, links, arguments, argument_list, elements, pairs, rest, formal, declarators, To, guard, fitting, expect, is_open_parenthesis, is_close_parenthesis, is_close_bracket, is_close_brace, is_colon}
 
 abbrev pub operator_of : TokenKind → Option Operator
 operator_of (k.Mark m.Or) = Some LogicalOr

@@ -4,7 +4,7 @@ use Rattle.js_lexer.specs.declared.token.TokenKind.{TokenKind}
 use Rattle.js_parser.specs.declared.form.Form.{Form}
 use Rattle.js_parser.specs.declared.stop.Stop.{Stop}
 use Rattle.js_parser.specs.declared.stop.Stop.TheVariants.{Broken, Deep, OutOfMemory}
-use Rattle.js_parser.specs.Symbols.{Symbol, Symbols}
+use Rattle.js_parser.specs.Symbols.{Symbols}
 use Rattle.js_parser.specs.Machine.{State, To, stuck, deep, Goes}
 
 -- From this state the machine comes to what the result says, with these symbols left: on with a

@@ -3,7 +3,6 @@ use Rattle.js_tree.specs.Plain as plain
 use Rattle.js_parser.specs.Contexts as contexts
 use Rattle.js_parser.specs.Elements as elements
 use Rattle.js_parser.specs.Reads.{Reads}
-use Rattle.js_parser.specs.Rooms as rooms
 use Rattle.js_parser.specs.View as view
 use Rattle.js_parser.proofs.descent.element.Goals as goal
 

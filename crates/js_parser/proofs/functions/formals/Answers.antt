@@ -1,5 +1,4 @@
-use Rattle.std.proofs.Common.{sym, subst, ◌∙◌}
-use Rattle.js_parser.specs.Machine.{formals, Goes}
+use Rattle.std.proofs.Common.{sym, ◌∙◌}
 use Rattle.js_parser.specs.Reads.{goes_on, is_stuck}
 use Rattle.js_parser.proofs.Steps.{after}
 use Rattle.js_parser.proofs.FormalSteps.{at_a_name, no_formals, no_formals_left}

@@ -1,4 +1,4 @@
-use Rattle.std.proofs.Common.{ℕ, ◌≤◌, ◌≡◌, true, List, ◌++◌, length}
+use Rattle.std.proofs.Common.{◌≤◌, ◌≡◌, true, List, ◌++◌, length}
 use Rattle.js_tree.specs.Tree.{Name}
 use Rattle.js_parser.specs.Machine.{To, Goes}
 use Rattle.js_parser.specs.Names.{is_distinct}

@@ -1,15 +1,6 @@
-use Rattle.std.proofs.Common.{◌≡◌, ◌+◌, ◌<◌, ◌≤◌, ◌∷◌, [], ◌++◌, take, drop, sym, ap, ◌∙◌, subst}
+use Rattle.std.proofs.Common.{◌+◌, take, drop, sym}
 use Rattle.std.proofs.lemmas.List.{take-append-drop}
-use Rattle.js_lexer.specs.declared.token.Token.{Token}
-use Rattle.js_tree.specs.declared.tree.Stmt.{Stmt}
-use Rattle.js_parser.specs.declared.form.Form.{Form}
-use Rattle.js_parser.specs.declared.form.Limits.{Limits}
-use Rattle.js_parser.specs.declared.scan.Halt.TheVariants as halt
-use Rattle.js_parser.specs.Accepted.{functions_in, most_open}
-use Rattle.js_parser.specs.Parses.{IsClosed}
-use Rattle.js_parser.specs.Scanned.{Scanned}
-use Rattle.js_parser.specs.Symbols.{symbols}
-use Rattle.js_parser.proofs.Parsed.{at_bracket, Bracket, as_halt, broken_of, deep_within, told_within, tells, tells_deep, bracket_deep, bracket_used_up, bracket_unread}
+use Rattle.js_parser.proofs.Parsed.{at_bracket, as_halt, broken_of, deep_within, told_within, tells, tells_deep, bracket_deep, bracket_used_up, bracket_unread}
 use Rattle.js_parser.proofs.parsing.parse_to_bracket.Goals as goal
 
 pub unreachable-requires : goal.unreachable-requires

@@ -1,8 +1,8 @@
-use Rattle.std.proofs.Common.{◌∷◌, [], ◌++◌, take, drop, sym, ap, ◌∙◌, subst, ◌<◌}
+use Rattle.std.proofs.Common.{take, drop, sym, subst, ◌<◌}
 use Rattle.std.proofs.lemmas.List.{take-append-drop}
 use Rattle.js_parser.specs.Accepted.{functions_in}
 use Rattle.js_parser.specs.Symbols.{symbols}
-use Rattle.js_parser.proofs.Parsed.{ToldAt, DeepAt, Split, split, as_halt, broken_of, deep_of, deep_within, few_open, function_follows, function_is_wanted, told_there, told_within, tells, tells_deep}
+use Rattle.js_parser.proofs.Parsed.{split, as_halt, broken_of, deep_of, deep_within, few_open, function_follows, function_is_wanted, told_there, told_within, tells, tells_deep}
 use Rattle.js_parser.proofs.parsing.parse_to_function.Goals as goal
 
 pub too_deep_at-requires : goal.too_deep_at-requires

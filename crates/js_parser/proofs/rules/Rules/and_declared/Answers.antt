@@ -2,7 +2,7 @@ use Rattle.std.proofs.Common.{[], ◌∷◌, ◌++◌, Some, sym, ◌∙◌}
 use Rattle.std.specs.Prelude.{map}
 use Rattle.std.proofs.lemmas.Result.{err_from_is_err_and}
 use Rattle.js_tree.specs.Tree.{Declare}
-use Rattle.js_tree.specs.Plain.{stmt, func}
+use Rattle.js_tree.specs.Plain.{stmt}
 use Rattle.js_parser.specs.Machine.{here}
 use Rattle.js_parser.specs.Pieces.{function_rule}
 use Rattle.js_parser.specs.Rooms.{in_function}

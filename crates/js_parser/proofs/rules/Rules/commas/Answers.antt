@@ -1,8 +1,6 @@
-use Rattle.std.proofs.Common.{◌≡◌, ◌≤◌, true, refl, sym, ◌∙◌, arith}
+use Rattle.std.proofs.Common.{sym, ◌∙◌, arith}
 use Rattle.std.proofs.lemmas.Result.{err_from_is_err_and}
-use Rattle.js_tree.specs.Plain.{expr}
-use Rattle.js_tree.specs.Tree.{Expr}
-use Rattle.js_parser.specs.Machine.{To, comma_tail, Goes, here}
+use Rattle.js_parser.specs.Machine.{comma_tail, here}
 use Rattle.js_parser.specs.Reads.{goes_on}
 use Rattle.js_parser.specs.View as view
 use Rattle.js_parser.proofs.Runs.{onwards}

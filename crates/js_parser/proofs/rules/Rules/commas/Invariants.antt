@@ -1,4 +1,4 @@
-use Rattle.std.proofs.Common.{ℕ, ◌≤◌, length}
+use Rattle.std.proofs.Common.{◌≤◌, length}
 use Rattle.js_tree.specs.Plain.{expr}
 use Rattle.js_tree.specs.Tree.{Expr}
 use Rattle.js_parser.specs.Machine.{To, comma_tail, Goes}

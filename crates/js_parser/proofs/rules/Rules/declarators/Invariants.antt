@@ -1,4 +1,4 @@
-use Rattle.std.proofs.Common.{ℕ, ◌≤◌, length}
+use Rattle.std.proofs.Common.{◌≤◌, length}
 use Rattle.js_tree.specs.Tree.{VarItems}
 use Rattle.js_parser.specs.ListViews.{var_parts}
 use Rattle.js_parser.specs.Machine.{To, declarators, Goes}

@@ -1,12 +1,8 @@
 use Rattle.std.proofs.Common.{sym, ◌∙◌}
 use Rattle.std.proofs.lemmas.Result.{err_from_is_err_and}
-use Rattle.js_tree.specs.Tree.{Name, Stmts}
 use Rattle.js_tree.specs.Plain.{func}
-use Rattle.js_parser.specs.Contexts as contexts
 use Rattle.js_parser.specs.Grammar.{code}
-use Rattle.js_parser.specs.Machine.{expect, is_close_parenthesis, is_open_brace, is_close_brace, source}
 use Rattle.js_parser.specs.Reads.{is_stuck}
-use Rattle.js_parser.specs.View as view
 use Rattle.js_parser.proofs.Runs.{onwards}
 use Rattle.js_parser.proofs.Steps.{after, came, handed, made}
 use Rattle.js_parser.proofs.FormalSteps.{at_a_function, at_no_function}

@@ -1,4 +1,4 @@
-use Rattle.std.proofs.Common.{ℕ, ◌≤◌, length}
+use Rattle.std.proofs.Common.{◌≤◌, length}
 use Rattle.std.specs.Prelude.{map}
 use Rattle.js_tree.specs.Plain.{stmt}
 use Rattle.js_tree.specs.Tree.{Stmts}
