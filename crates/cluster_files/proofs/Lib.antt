@@ -1,3 +1,11 @@
+pub mod CutText
 pub mod Keys
+pub mod Neighbours
 pub mod PrintedTokens
+pub mod Scalars
+pub mod SpelledMarks
+pub mod SpelledNames
+pub mod SpelledNumbers
+pub mod SpelledStrings
 pub mod Signs
+pub mod TextTokens
