@@ -9,3 +9,4 @@ pub mod SpelledNumbers
 pub mod SpelledStrings
 pub mod Signs
 pub mod TextTokens
+pub mod PrintedNeighbours
