@@ -10,3 +10,5 @@ pub mod SpelledStrings
 pub mod Signs
 pub mod TextTokens
 pub mod PrintedNeighbours
+pub mod TextKinds
+pub mod PrintedKinds

@@ -42,16 +42,17 @@ lone_character : (c : ℕ) → IsCharacter c → lone_unit_char c ≡ Some c
 lone_character c (inl low) = rw (lt-leb 0xD800 c low) refl
 lone_character c (inr h) = rw (le-leb 0xD800 c (omega arith), le-ltb c 0xE000 h.0) refl
 
-bounded : (c : ℕ) → IsCharacter c → c < 0x11_0000
+pub bounded : (c : ℕ) → IsCharacter c → c < 0x11_0000
 bounded c (inl low) = omega arith
 bounded c (inr h) = h.1
 
-pub units_below : (c : ℕ) (us : List ℕ) → IsCharacter c → are_units us ≡ true → are_units (encode_utf16 c ++ us) ≡ true
-units_below c us h all = at (cases_lt c 0x1_0000)
+-- also of a surrogate
+pub units_below : (c : ℕ) (us : List ℕ) → c < 0x11_0000 → are_units us ≡ true → are_units (encode_utf16 c ++ us) ≡ true
+units_below c us top all = at (cases_lt c 0x1_0000)
   where
     at : (c < 0x1_0000) ⊎ (0x1_0000 ≤ c) → are_units (encode_utf16 c ++ us) ≡ true
     at (inl low) = rw (one_unit c low, lt-ltb c 0x1_0000 low) all
-    at (inr high) = let top = bounded c h in
+    at (inr high) =
         rw (two_units c high, lt-ltb (0xD800 + (c - 0x1_0000) / 0x400) 0x1_0000 (omega arith), lt-ltb (0xDC00 + (c - 0x1_0000) % 0x400) 0x1_0000 (omega arith)) all
 
 -- the character of the pair that it is written as
@@ -79,7 +80,7 @@ characters_back (c ∷ cs) h =
 
 pub characters_units : (cs : List ℕ) → scalars cs ≡ true → are_units (utf16 cs) ≡ true
 characters_units [] h = refl
-characters_units (c ∷ cs) h = units_below c (utf16 cs) (is_character c (left (scalar c) (scalars cs) h)) (characters_units cs (right (scalar c) (scalars cs) h))
+characters_units (c ∷ cs) h = units_below c (utf16 cs) (bounded c (is_character c (left (scalar c) (scalars cs) h))) (characters_units cs (right (scalar c) (scalars cs) h))
 
 -- ---- from units to characters
 
