@@ -10,7 +10,8 @@ use Rattle.js_lexer.specs.declared.token.TokenKind.{TokenKind}
 use Rattle.js_lexer.proofs.OnlyPiece.{next_piece}
 use Rattle.js_printer.specs.Printed.{Kinds}
 use Rattle.js_printer.specs.PrintedText.{spelled, needs_space, space, gap, text}
-use Rattle.cluster_files.proofs.Neighbours.{IsWritable, AreWritable, AllFit, Stops, kind_stands, stops_before, stops_at_feed}
+use Rattle.cluster_files.specs.WritableKinds.{AreWritable}
+use Rattle.cluster_files.proofs.Neighbours.{AllFit, Stops, kind_stands, stops_before, stops_at_feed, stops_at_nothing}
 
 abbrev pub of_token : TokenKind → Piece
 of_token kind = record { characters = spelled kind; kind = Some kind }
@@ -22,11 +23,20 @@ abbrev pub spaced : Bool → List Piece → List Piece
 spaced true ps = of_blank 32 ∷ ps
 spaced false ps = ps
 
--- the pieces of a text that a line feed closes
-abbrev pub pieces : Kinds → List Piece
-pieces [] = of_blank 10 ∷ []
-pieces (kind ∷ []) = of_token kind ∷ (of_blank 10 ∷ [])
-pieces (kind ∷ next ∷ more) = of_token kind ∷ spaced (needs_space (spelled kind) (spelled next)) (pieces (next ∷ more))
+-- a line feed, or nothing
+abbrev pub closing : Bool → List ℕ
+closing true = 10 ∷ []
+closing false = []
+
+abbrev pub last_pieces : Bool → List Piece
+last_pieces true = of_blank 10 ∷ []
+last_pieces false = []
+
+-- the pieces of the text of kinds, which a line feed closes or nothing
+abbrev pub pieces : Bool → Kinds → List Piece
+pieces feed [] = last_pieces feed
+pieces feed (kind ∷ []) = of_token kind ∷ last_pieces feed
+pieces feed (kind ∷ next ∷ more) = of_token kind ∷ spaced (needs_space (spelled kind) (spelled next)) (pieces feed (next ∷ more))
 
 cut_piece : (us rest : List ℕ) (kind : Option TokenKind) (ps : List Piece) → StandsAt (us ++ rest) (Next (length us) kind) → Cut rest ps []
     → Cut (us ++ rest) (record { characters = us; kind = kind } ∷ ps) []
@@ -38,8 +48,13 @@ cut_space : (b : Bool) (rest : List ℕ) (ps : List Piece) → Cut rest ps [] �
 cut_space true rest ps c = cut_piece (32 ∷ []) rest None ps (f.other refl) c
 cut_space false rest ps c = c
 
-cut_feed : Cut (10 ∷ []) (of_blank 10 ∷ []) []
-cut_feed = cut_piece (10 ∷ []) [] None [] (f.other refl) t.done
+cut_end : (feed : Bool) → Cut (closing feed) (last_pieces feed) []
+cut_end true = cut_piece (10 ∷ []) [] None [] (f.other refl) t.done
+cut_end false = t.done
+
+stops_at_end : (kind : TokenKind) (feed : Bool) → Stops kind (closing feed)
+stops_at_end kind true = stops_at_feed kind []
+stops_at_end kind false = stops_at_nothing kind
 
 -- the text behind the first kind
 behind : (kind next : TokenKind) (more : Kinds) (end : List ℕ)
@@ -48,19 +63,19 @@ behind kind next more end =
     append_assoc (spelled kind) (space (needs_space (spelled kind) (spelled next)) ++ text (next ∷ more)) end
     ∙ ap (λ us. spelled kind ++ us) (append_assoc (space (needs_space (spelled kind) (spelled next))) (text (next ∷ more)) end)
 
-pub text_is_cut : (kinds : Kinds) → AreWritable kinds → AllFit kinds → Cut (text kinds ++ (10 ∷ [])) (pieces kinds) []
-text_is_cut [] w f = cut_feed
-text_is_cut (kind ∷ []) w f =
-    let s = kind_stands kind (10 ∷ []) w.0 (stops_at_feed kind []) in
-    subst (λ us. Cut (us ++ (10 ∷ [])) (of_token kind ∷ (of_blank 10 ∷ [])) []) (sym (append-nil (spelled kind)))
-    (cut_piece (spelled kind) (10 ∷ []) (Some kind) (of_blank 10 ∷ []) s cut_feed)
-text_is_cut (kind ∷ next ∷ more) w f =
-    let rest = text_is_cut (next ∷ more) w.1 f.1 in
+pub text_is_cut : (feed : Bool) (kinds : Kinds) → AreWritable kinds → AllFit kinds → Cut (text kinds ++ closing feed) (pieces feed kinds) []
+text_is_cut feed [] w f = cut_end feed
+text_is_cut feed (kind ∷ []) w f =
+    let s = kind_stands kind (closing feed) w.0 (stops_at_end kind feed) in
+    subst (λ us. Cut (us ++ closing feed) (of_token kind ∷ last_pieces feed) []) (sym (append-nil (spelled kind)))
+    (cut_piece (spelled kind) (closing feed) (Some kind) (last_pieces feed) s (cut_end feed))
+text_is_cut feed (kind ∷ next ∷ more) w f =
+    let rest = text_is_cut feed (next ∷ more) w.1 f.1 in
     let b = needs_space (spelled kind) (spelled next) in
-    let after = space b ++ (text (next ∷ more) ++ (10 ∷ [])) in
+    let after = space b ++ (text (next ∷ more) ++ closing feed) in
     let stops : Stops kind after =
-    subst (λ us. Stops kind (space b ++ us)) (sym (append_assoc (spelled next) (gap next more ++ text more) (10 ∷ [])))
-    (stops_before kind next more ((gap next more ++ text more) ++ (10 ∷ [])) w.0 w.1.0 f.0) in
-    subst (λ us. Cut us (of_token kind ∷ spaced b (pieces (next ∷ more))) []) (sym (behind kind next more (10 ∷ [])))
-    (cut_piece (spelled kind) after (Some kind) (spaced b (pieces (next ∷ more))) (kind_stands kind after w.0 stops)
-    (cut_space b (text (next ∷ more) ++ (10 ∷ [])) (pieces (next ∷ more)) rest))
+    subst (λ us. Stops kind (space b ++ us)) (sym (append_assoc (spelled next) (gap next more ++ text more) (closing feed)))
+    (stops_before kind next more ((gap next more ++ text more) ++ closing feed) w.0 w.1.0 f.0) in
+    subst (λ us. Cut us (of_token kind ∷ spaced b (pieces feed (next ∷ more))) []) (sym (behind kind next more (closing feed)))
+    (cut_piece (spelled kind) after (Some kind) (spaced b (pieces feed (next ∷ more))) (kind_stands kind after w.0 stops)
+    (cut_space b (text (next ∷ more) ++ closing feed) (pieces feed (next ∷ more)) rest))

@@ -28,26 +28,11 @@ use Rattle.js_lexer.proofs.PieceLaws.{left, right}
 use Rattle.js_lexer.proofs.Within.{continues_first, mark_length}
 use Rattle.js_printer.specs.Printed.{Kinds}
 use Rattle.js_printer.specs.PrintedText.{spelled, last_is, needs_space, space}
-use Rattle.cluster_files.proofs.Scalars.{are_units}
+use Rattle.cluster_files.specs.WritableKinds.{IsWritable, AreWritable, are_units}
 use Rattle.cluster_files.proofs.SpelledNames.{word_stands, word_continues, word_some, written_name_stands, name_text}
 use Rattle.cluster_files.proofs.SpelledNumbers.{number_stands, decimal_digits}
 use Rattle.cluster_files.proofs.SpelledStrings.{string_stands}
 use Rattle.cluster_files.proofs.SpelledMarks.{is_loud, mark_stops, mark_stands}
-
--- ---- what may be written
-
--- a name is one of the lexer's, a number is one that it reads, and a string is of units
-abbrev pub IsWritable : TokenKind → Type 0
-IsWritable (k.Word word) = Unit {0}
-IsWritable (k.Name n) = (is_name n ≡ true) × (are_units n ≡ true)
-IsWritable (k.Number n) = n < 2 ^ 53
-IsWritable (k.Str text) = are_units text ≡ true
-IsWritable (k.Mark x) = Unit {0}
-IsWritable k.End = ⊥
-
-abbrev pub AreWritable : Kinds → Type 0
-AreWritable [] = Unit {0}
-AreWritable (kind ∷ rest) = IsWritable kind × AreWritable rest
 
 -- ---- what may stand side by side
 
@@ -159,6 +144,18 @@ stops_at_feed (k.Number n) rest = after_at 10 rest refl refl refl (plain 10 (lit
 stops_at_feed (k.Str text) rest = tt
 stops_at_feed (k.Mark x) rest = mark_feed x rest
 stops_at_feed k.End rest = tt
+
+mark_end : (x : Mark) → mark_stops x [] ≡ true
+mark_end m.Plus = refl
+mark_end _ = refl
+
+pub stops_at_nothing : (kind : TokenKind) → Stops kind []
+stops_at_nothing (k.Word word) = refl
+stops_at_nothing (k.Name n) = refl
+stops_at_nothing (k.Number n) = refl
+stops_at_nothing (k.Str text) = tt
+stops_at_nothing (k.Mark x) = mark_end x
+stops_at_nothing k.End = tt
 
 -- ---- the characters of a kind
 

@@ -31,10 +31,8 @@ use Rattle.js_parser.specs.Accepted.{Derives}
 use Rattle.js_printer.specs.Printed.{Kinds, is_number, is_function, has_call, enclosed, enclosed_if, needs, operand_for, operand, key_kind, assignment_mark, prefix_least, names, begins_as_another}
 use Rattle.js_printer.specs.Printed.{expr, exprs, other_exprs, maybe_expr, elements, other_elements, pairs, other_pairs, handler, stmt, stmts, for_init, var_items, other_var_items, initialiser, cases}
 use Rattle.js_printer.specs.Signs.{sign, operation_sign, prefix_sign, postfix_sign, assignment}
-use Rattle.cluster_files.proofs.Scalars.{are_units}
+use Rattle.cluster_files.specs.WritableKinds.{are_units, IsWritable, AreWritable, IsRead, AreRead}
 use Rattle.cluster_files.proofs.SpelledNumbers.{decimal_digits}
-use Rattle.cluster_files.proofs.Neighbours.{IsWritable, AreWritable}
-use Rattle.cluster_files.proofs.TextKinds.{IsRead, AreRead}
 
 -- ---- lists
 

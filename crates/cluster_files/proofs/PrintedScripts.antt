@@ -19,7 +19,8 @@ use Rattle.js_parser.proofs.Parsed.{exactly}
 use Rattle.js_printer.specs.Printed.{stmts}
 use Rattle.js_printer.specs.PrintedText.{script_text, script_bytes}
 use Rattle.cluster_files.specs.ReadsBack as law
-use Rattle.cluster_files.specs.ReadsBack.{IsTextOf, line_of}
+use Rattle.cluster_files.specs.ReadsBack.{IsTextOf}
+use Rattle.cluster_files.specs.WritableKinds.{AreRead}
 use Rattle.cluster_files.proofs.PrintedBrackets.{brackets_open}
 use Rattle.cluster_files.proofs.PrintedKinds.{script_kinds}
 use Rattle.cluster_files.proofs.PrintedNeighbours.{script_fits}
@@ -27,28 +28,36 @@ use Rattle.cluster_files.proofs.PrintedTokens.{read_back_to}
 use Rattle.cluster_files.proofs.TextKinds.{text_kinds}
 use Rattle.cluster_files.proofs.TextTokens.{ReadsAs, text_reads}
 
--- the printed tree of a text reads as the tokens that it is written with
-reads_as : (form : Form) (tree : Script) (bytes : List ℕ) → IsTextOf form tree bytes → ReadsAs (stmts tree)
-reads_as form tree bytes t =
-    text_reads (stmts tree) (script_kinds form (symbols t.tokens) tree t.derives (text_kinds (chars bytes) t.tokens (scalars-chars bytes t.is_text) t.cut)) (script_fits tree)
+-- the text of the tree of tokens of texts has the tokens that it is written with
+reads_as : (form : Form) (tokens : Symbols) (tree : Script) → Derives form tokens tree → AreRead tokens → ReadsAs true (stmts tree)
+reads_as form tokens tree d r = text_reads true (stmts tree) (script_kinds form tokens tree d r) (script_fits tree)
 
-same_characters : (form : Form) (tree : Script) (bytes : List ℕ) → IsTextOf form tree bytes → chars (script_bytes tree) ≡ script_text tree
-same_characters form tree bytes t = chars-encodes (script_text tree) (reads_as form tree bytes t).characters
+same_characters : (tree : Script) → ReadsAs true (stmts tree) → chars (script_bytes tree) ≡ script_text tree
+same_characters tree r = chars-encodes (script_text tree) r.characters
 
-pub printed_text_reads_back : law.PrintedTextReadsBack
-printed_text_reads_back form tree bytes t =
-    let r = reads_as form tree bytes t in
+pub tokens_of_texts_are_read : law.TokensOfTextsAreRead
+tokens_of_texts_are_read bytes tokens u cut = text_kinds (chars bytes) tokens (scalars-chars bytes u) cut
+
+pub printed_tree_reads_back : law.PrintedTreeReadsBack
+printed_tree_reads_back form tokens tree d a =
+    let r = reads_as form tokens tree d a in
     record {
       is_text = (script_text tree, (r.characters, refl));
       tokens = r.tokens;
-      cut = subst (λ cs. IsTokens cs r.tokens) (sym (same_characters form tree bytes t)) r.cut;
-      derives = subst (λ ss. Derives form ss tree) (sym r.are) (read_back_to form (symbols t.tokens) tree t.derives true);
+      cut = subst (λ cs. IsTokens cs r.tokens) (sym (same_characters tree r)) r.cut;
+      derives = subst (λ ss. Derives form ss tree) (sym r.are) (read_back_to form tokens tree d true);
     }
+
+of_text : {form : Form} {tree : Script} {bytes : List ℕ} → (t : IsTextOf form tree bytes) → AreRead (symbols t.tokens)
+of_text {bytes = bytes} t = tokens_of_texts_are_read bytes t.tokens t.is_text t.cut
+
+pub printed_text_reads_back : law.PrintedTextReadsBack
+printed_text_reads_back form tree bytes t = printed_tree_reads_back form (symbols t.tokens) tree t.derives (of_text t)
 
 pub printed_text_is_its_tokens : law.PrintedTextIsItsTokens
 printed_text_is_its_tokens form tree bytes tokens t cut =
-    let r = reads_as form tree bytes t in
-    let here = subst (λ cs. IsTokens cs tokens) (same_characters form tree bytes t) cut in
+    let r = reads_as form (symbols t.tokens) tree t.derives (of_text t) in
+    let here = subst (λ cs. IsTokens cs tokens) (same_characters tree r) cut in
     ap symbols (one_list_of_tokens (script_text tree) tokens r.tokens here r.cut) ∙ r.are
 
 pub printed_text_is_lexed : law.PrintedTextIsLexed

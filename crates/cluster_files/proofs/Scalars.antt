@@ -10,6 +10,7 @@ use Rattle.std.proofs.lemmas.Str.{utf16_chars-nil, utf16_chars_lone, utf16_chars
 use Rattle.dl_text.specs.Utf16.{utf16}
 use Rattle.js_lexer.specs.Names.{passes}
 use Rattle.js_lexer.proofs.PieceLaws.{left, right}
+use Rattle.cluster_files.specs.WritableKinds.{are_units}
 
 -- a Unicode scalar value
 abbrev pub IsCharacter : ℕ → Type 0
@@ -18,10 +19,6 @@ IsCharacter c = (c < 0xD800) ⊎ ((0xE000 ≤ c) × (c < 0x11_0000))
 pub character_true : (c : ℕ) → IsCharacter c → scalar c ≡ true
 character_true c (inl low) = rw (lt-ltb c 0xD800 low) refl
 character_true c (inr h) = rw (le-ltb c 0xD800 (omega arith), le-leb 0xE000 c h.0, lt-ltb c 0x11_0000 h.1) refl
-
--- the units of UTF-16 are of 16 bits
-abbrev pub are_units : List ℕ → Bool
-are_units = list_all (λ u. nat_lt u 0x1_0000)
 
 pub one_unit : (c : ℕ) → c < 0x1_0000 → encode_utf16 c ≡ c ∷ []
 one_unit c h = rw (lt-ltb c 0x1_0000 h) refl

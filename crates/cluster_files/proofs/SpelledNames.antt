@@ -22,7 +22,8 @@ use Rattle.js_lexer.specs.declared.token.TokenKind.TheVariants as t
 use Rattle.js_lexer.proofs.Longest.{name_front, name_quote}
 use Rattle.js_lexer.proofs.PieceLaws.{left, right}
 use Rattle.js_lexer.proofs.Within.{continues_first}
-use Rattle.cluster_files.proofs.Scalars.{are_units, Spells, spells, characters_back}
+use Rattle.cluster_files.specs.WritableKinds.{are_units}
+use Rattle.cluster_files.proofs.Scalars.{Spells, spells, characters_back}
 
 -- ---- runs
 

@@ -16,7 +16,8 @@ use Rattle.js_lexer.specs.Fronts as f
 use Rattle.js_lexer.specs.declared.front.Front.TheVariants.{Next}
 use Rattle.js_lexer.specs.declared.token.TokenKind.TheVariants as t
 use Rattle.js_lexer.proofs.PieceLaws.{left, right}
-use Rattle.cluster_files.proofs.Scalars.{are_units, one_unit}
+use Rattle.cluster_files.specs.WritableKinds.{are_units}
+use Rattle.cluster_files.proofs.Scalars.{one_unit}
 
 -- the text begins with these characters, which are a part of a string that gives this unit
 record IsPartOf (written rest : List ℕ) (u : ℕ) : Type 0 where

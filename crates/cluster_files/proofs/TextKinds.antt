@@ -20,18 +20,9 @@ use Rattle.js_lexer.specs.declared.token.TokenKind.TheVariants as k
 use Rattle.js_lexer.specs.declared.word.Word.{Word}
 use Rattle.js_lexer.proofs.PieceLaws.{left, right}
 use Rattle.js_parser.specs.Symbols.{Symbol, Symbols, symbols}
-use Rattle.cluster_files.proofs.Scalars.{are_units, is_character, bounded, units_below, characters_units}
+use Rattle.cluster_files.specs.WritableKinds.{are_units, IsRead, AreRead}
+use Rattle.cluster_files.proofs.Scalars.{is_character, bounded, units_below, characters_units}
 use Rattle.cluster_files.proofs.SpelledNames.{name_read}
-use Rattle.cluster_files.proofs.Neighbours.{IsWritable}
-
--- of a token that is read, which may be the end
-abbrev pub IsRead : TokenKind → Type 0
-IsRead k.End = Unit {0}
-IsRead kind = IsWritable kind
-
-abbrev pub AreRead : Symbols → Type 0
-AreRead [] = Unit {0}
-AreRead (s ∷ ss) = IsRead s.kind × AreRead ss
 
 -- ---- strings
 

@@ -24,12 +24,12 @@ use Rattle.js_parser.specs.Symbols.{Symbol, Symbols, symbol, symbols, is_in_deci
 use Rattle.js_printer.specs.Printed.{Kinds}
 use Rattle.js_printer.specs.PrintedText.{spelled, needs_space, space, gap, text}
 use Rattle.cluster_files.specs.ReadsBack.{on_line, line_of}
-use Rattle.cluster_files.proofs.Scalars.{are_units}
+use Rattle.cluster_files.specs.WritableKinds.{are_units, IsWritable, AreWritable}
 use Rattle.cluster_files.proofs.SpelledNames.{name_text, word_scalars, word_continues, word_some}
 use Rattle.cluster_files.proofs.SpelledNumbers.{decimal_digits}
 use Rattle.cluster_files.proofs.SpelledMarks.{mark_scalars}
-use Rattle.cluster_files.proofs.Neighbours.{IsWritable, AreWritable, AllFit, IsRun, word_run, name_run, number_run}
-use Rattle.cluster_files.proofs.CutText.{pieces, spaced, of_token, text_is_cut}
+use Rattle.cluster_files.proofs.Neighbours.{AllFit, IsRun, word_run, name_run, number_run}
+use Rattle.cluster_files.proofs.CutText.{closing, last_pieces, pieces, spaced, text_is_cut}
 
 -- ---- the characters of the text
 
@@ -127,9 +127,14 @@ kind_plain (k.Str text) h rest = refl
 kind_plain (k.Mark x) h rest = mark_plain x rest
 kind_plain k.End h rest = absurd h
 
-text_plain : (kinds : Kinds) → AreWritable kinds → has_byte_order_mark (text kinds ++ (10 ∷ [])) ≡ false
-text_plain [] w = refl
-text_plain (kind ∷ rest) w = ap has_byte_order_mark (append_assoc (spelled kind) (gap kind rest ++ text rest) (10 ∷ [])) ∙ kind_plain kind w.0 ((gap kind rest ++ text rest) ++ (10 ∷ []))
+closing_plain : (feed : Bool) → has_byte_order_mark (closing feed) ≡ false
+closing_plain true = refl
+closing_plain false = refl
+
+text_plain : (feed : Bool) (kinds : Kinds) → AreWritable kinds → has_byte_order_mark (text kinds ++ closing feed) ≡ false
+text_plain feed [] w = closing_plain feed
+text_plain feed (kind ∷ rest) w =
+    ap has_byte_order_mark (append_assoc (spelled kind) (gap kind rest ++ text rest) (closing feed)) ∙ kind_plain kind w.0 ((gap kind rest ++ text rest) ++ closing feed)
 
 -- ---- symbols
 
@@ -167,41 +172,46 @@ any_last (c ∷ cs) = ap (λ b. is_line_terminator c || b) (any_last cs) ∙ or_
     or_true true = refl
     or_true false = refl
 
-end_symbol : (start : ℕ) (before gap : List ℕ) → symbols (tokens_behind start before gap (pieces [])) ≡ end true ∷ []
-end_symbol start before gap = ap (λ b. end b ∷ []) (any_last gap)
+end_symbol : (feed : Bool) (start : ℕ) (before gap : List ℕ) → list_any is_line_terminator gap ≡ false → symbols (tokens_behind start before gap (last_pieces feed)) ≡ end feed ∷ []
+end_symbol true start before gap e = ap (λ b. end b ∷ []) (any_last gap)
+end_symbol false start before gap e = ap (λ b. end b ∷ []) e
 
-pub text_symbols : (start : ℕ) (before gap : List ℕ) (kinds : Kinds) → AreWritable kinds → list_any is_line_terminator gap ≡ false
-    → symbols (tokens_behind start before gap (pieces kinds)) ≡ line_of kinds ++ (end true ∷ [])
-text_symbols start before gap [] w e = end_symbol start before gap
-text_symbols start before gap (kind ∷ []) w e =
-    ap (λ s. s ∷ symbols (tokens_behind start (before ++ spelled kind) [] (pieces []))) (token_symbol start before gap kind w.0 e)
-    ∙ ap (λ ss. on_line kind ∷ ss) (end_symbol start (before ++ spelled kind) [])
-text_symbols start before gap (kind ∷ next ∷ more) w e =
-    ap (λ s. s ∷ symbols (tokens_behind start (before ++ spelled kind) [] (spaced (needs_space (spelled kind) (spelled next)) (pieces (next ∷ more))))) (token_symbol start before gap kind w.0 e)
-    ∙ ap (λ ss. on_line kind ∷ ss) (behind (needs_space (spelled kind) (spelled next)) (λ before gap. text_symbols start before gap (next ∷ more) w.1))
+pub text_symbols : (feed : Bool) (start : ℕ) (before gap : List ℕ) (kinds : Kinds) → AreWritable kinds → list_any is_line_terminator gap ≡ false
+    → symbols (tokens_behind start before gap (pieces feed kinds)) ≡ line_of kinds ++ (end feed ∷ [])
+text_symbols feed start before gap [] w e = end_symbol feed start before gap e
+text_symbols feed start before gap (kind ∷ []) w e =
+    ap (λ s. s ∷ symbols (tokens_behind start (before ++ spelled kind) [] (last_pieces feed))) (token_symbol start before gap kind w.0 e)
+    ∙ ap (λ ss. on_line kind ∷ ss) (end_symbol feed start (before ++ spelled kind) [] refl)
+text_symbols feed start before gap (kind ∷ next ∷ more) w e =
+    ap (λ s. s ∷ symbols (tokens_behind start (before ++ spelled kind) [] (spaced (needs_space (spelled kind) (spelled next)) (pieces feed (next ∷ more))))) (token_symbol start before gap kind w.0 e)
+    ∙ ap (λ ss. on_line kind ∷ ss) (behind (needs_space (spelled kind) (spelled next)) (λ before gap. text_symbols feed start before gap (next ∷ more) w.1))
   where
-    behind : (b : Bool) → ((before gap : List ℕ) → list_any is_line_terminator gap ≡ false → symbols (tokens_behind start before gap (pieces (next ∷ more))) ≡ line_of (next ∷ more) ++ (end true ∷ []))
-        → symbols (tokens_behind start (before ++ spelled kind) [] (spaced b (pieces (next ∷ more)))) ≡ line_of (next ∷ more) ++ (end true ∷ [])
+    behind : (b : Bool) → ((before gap : List ℕ) → list_any is_line_terminator gap ≡ false → symbols (tokens_behind start before gap (pieces feed (next ∷ more))) ≡ line_of (next ∷ more) ++ (end feed ∷ []))
+        → symbols (tokens_behind start (before ++ spelled kind) [] (spaced b (pieces feed (next ∷ more)))) ≡ line_of (next ∷ more) ++ (end feed ∷ [])
     behind true rec = rec ((before ++ spelled kind) ++ (32 ∷ [])) (32 ∷ []) refl
     behind false rec = rec (before ++ spelled kind) [] refl
 
 -- ---- all of it
 
--- the text of these kinds, which a line feed closes, has them as its tokens
-pub record ReadsAs (kinds : Kinds) : Type 0 where
+-- the text of these kinds, which a line feed closes or nothing, has them as its tokens
+pub record ReadsAs (feed : Bool) (kinds : Kinds) : Type 0 where
   pub tokens : List Token
-  pub cut : IsTokens (text kinds ++ (10 ∷ [])) tokens
-  pub are : symbols tokens ≡ line_of kinds ++ (end true ∷ [])
-  pub characters : scalars (text kinds ++ (10 ∷ [])) ≡ true
+  pub cut : IsTokens (text kinds ++ closing feed) tokens
+  pub are : symbols tokens ≡ line_of kinds ++ (end feed ∷ [])
+  pub characters : scalars (text kinds ++ closing feed) ≡ true
 
-pub text_reads : (kinds : Kinds) → AreWritable kinds → AllFit kinds → ReadsAs kinds
-text_reads kinds w f =
-    let whole = text kinds ++ (10 ∷ []) in
-    let plain = text_plain kinds w in
+closing_scalars : (feed : Bool) → scalars (closing feed) ≡ true
+closing_scalars true = refl
+closing_scalars false = refl
+
+pub text_reads : (feed : Bool) (kinds : Kinds) → AreWritable kinds → AllFit kinds → ReadsAs feed kinds
+text_reads feed kinds w f =
+    let whole = text kinds ++ closing feed in
+    let plain = text_plain feed kinds w in
     let same : body whole ≡ whole = ap (λ b. cond b (drop 1 whole) whole) plain in
     record {
-      tokens = tokens_behind (body_start whole) [] [] (pieces kinds);
-      cut = record { pieces = pieces kinds; cut = rw same (text_is_cut kinds w f); are = refl };
-      are = text_symbols (body_start whole) [] [] kinds w refl;
-      characters = scalars_append (text kinds) (10 ∷ []) (text_scalars kinds w) refl;
+      tokens = tokens_behind (body_start whole) [] [] (pieces feed kinds);
+      cut = record { pieces = pieces feed kinds; cut = rw same (text_is_cut feed kinds w f); are = refl };
+      are = text_symbols feed (body_start whole) [] [] kinds w refl;
+      characters = scalars_append (text kinds) (closing feed) (text_scalars kinds w) (closing_scalars feed);
     }

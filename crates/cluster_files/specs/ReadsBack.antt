@@ -17,6 +17,7 @@ use Rattle.js_parser.specs.Accepted.{Accepted, Derives, most_open}
 use Rattle.js_parser.specs.Parses.{IsTree, Parses}
 use Rattle.js_printer.specs.Printed.{Kinds, stmts}
 use Rattle.js_printer.specs.PrintedText.{script_bytes}
+use Rattle.cluster_files.specs.WritableKinds.{AreRead}
 
 -- on one line
 abbrev pub on_line : TokenKind → Symbol
@@ -37,6 +38,18 @@ pub record IsTextOf (form : Form) (tree : Script) (bytes : List ℕ) : Type 0 wh
   pub tokens : List Token
   pub cut : IsTokens (chars bytes) tokens
   pub derives : Derives form (symbols tokens) tree
+
+-- Names, numbers and strings among the tokens of a text are such as may be written.
+abbrev pub TokensOfTextsAreRead : Type 0
+TokensOfTextsAreRead =
+    (bytes : List ℕ) (tokens : List Token) → IsUtf8 bytes → IsTokens (chars bytes) tokens
+    → AreRead (symbols tokens)
+
+-- Each tree of tokens that may be written has its printed text.
+abbrev pub PrintedTreeReadsBack : Type 0
+PrintedTreeReadsBack =
+    (form : Form) (tokens : Symbols) (tree : Script) → Derives form tokens tree → AreRead tokens
+    → IsTextOf form tree (script_bytes tree)
 
 -- Each tree that some text has, its printed text has.
 abbrev pub PrintedTextReadsBack : Type 0

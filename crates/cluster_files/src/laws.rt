@@ -7,6 +7,16 @@ pub fn printed_tokens_read_back()
     ensures { back.PrintedTokensReadBack }
 {}
 
+/// Names, numbers and strings among the tokens of a text are such as may be written.
+pub fn tokens_of_texts_are_read()
+    ensures { back.TokensOfTextsAreRead }
+{}
+
+/// Each tree of tokens that may be written has its printed text.
+pub fn printed_tree_reads_back()
+    ensures { back.PrintedTreeReadsBack }
+{}
+
 /// Each tree that some text has, its printed text has.
 pub fn printed_text_reads_back()
     ensures { back.PrintedTextReadsBack }

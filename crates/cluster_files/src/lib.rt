@@ -8,5 +8,6 @@ mod laws;
 pub use laws::{
     printed_text_has_few_brackets, printed_text_is_accepted, printed_text_is_its_tokens,
     printed_text_is_lexed, printed_text_is_parsed, printed_text_reads_back,
-    printed_tokens_read_back, printed_twice_is_printed_once,
+    printed_tokens_read_back, printed_tree_reads_back, printed_twice_is_printed_once,
+    tokens_of_texts_are_read,
 };
