@@ -1,2 +1,16 @@
+pub mod CutText
 pub mod Keys
+pub mod Neighbours
+pub mod PrintedBrackets
+pub mod PrintedKinds
+pub mod PrintedNeighbours
+pub mod PrintedScripts
 pub mod PrintedTokens
+pub mod Scalars
+pub mod Signs
+pub mod SpelledMarks
+pub mod SpelledNames
+pub mod SpelledNumbers
+pub mod SpelledStrings
+pub mod TextKinds
+pub mod TextTokens

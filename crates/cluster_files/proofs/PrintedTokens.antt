@@ -9,22 +9,25 @@ use Rattle.js_lexer.specs.declared.token.TokenKind.{TokenKind}
 use Rattle.js_lexer.specs.declared.token.TokenKind.TheVariants as k
 use Rattle.js_tree.specs.declared.tree.BinaryOp.{BinaryOp}
 use Rattle.js_tree.specs.declared.tree.BinaryOp.TheVariants as b
+use Rattle.js_tree.specs.declared.tree.PrefixOp.{PrefixOp}
 use Rattle.js_tree.specs.Tree.{Name, Expr, Exprs, MaybeExpr, Elements, Pairs, Stmt, Stmts, VarItems, Cases, ForInit}
 use Rattle.js_tree.specs.Tree
 use Rattle.js_parser.specs.declared.form.Form.{Form}
 use Rattle.js_parser.specs.Symbols.{Symbol, Symbols, word, mark, name, first, end}
 use Rattle.js_tree.specs.Levels.{Operator, LogicalOr, LogicalAnd, Operation, joined, level, operation_level, is_in_operation, changes}
-use Rattle.js_parser.specs.Operators.{sign, may_operate, assignment, postfix_sign}
+use Rattle.js_parser.specs.Operators.{sign, may_operate, assignment, prefix_sign, postfix_sign}
 use Rattle.js_parser.specs.Contexts.{Context}
 use Rattle.js_parser.specs.Ends.{written, semicolon}
 use Rattle.js_parser.specs.Grammar.{Formals, Expression, NewCallee, Arguments, ArgumentList, ElementList, PropertyList, FunctionRest, Declarator, DeclaratorList, OptionalExpression, ForFirst, Block, Statement, StatementList, CaseClauses, SourceElement, SourceElements}
 use Rattle.js_parser.specs.Grammar as g
 use Rattle.js_parser.specs.Accepted.{Derives}
 use Rattle.js_printer.specs.Printed.{Kinds, level_of, is_number, is_function, has_call, enclosed, enclosed_if, needs, operand_for, operand, key_kind, assignment_mark, prefix_least, names, begins_as_another, expr, exprs, other_exprs, maybe_expr, elements, pairs, stmt, stmts, for_init, var_items, other_var_items, initialiser, cases}
+use Rattle.js_printer.specs.Signs as shown
 use Rattle.cluster_files.specs.ReadsBack.{on_line, line_of}
 use Rattle.js_parser.proofs.Levels.{lower, widen, expression-any}
 use Rattle.js_parser.proofs.NoElse.{list-follows, elements-follow}
 use Rattle.cluster_files.proofs.Keys.{key_back}
+use Rattle.cluster_files.proofs.Signs.{same-operation, same-prefix, same-postfix, same-assignment}
 
 -- ---- lists of tokens
 
@@ -267,7 +270,14 @@ exact-joined (Operation op) x y = refl
 joined-line : (op : Operator) (x y : Expr) (j : Bool) → expr (joined op x y) j ≡ operand j (level op) x (expr x) ++ (sign op ∷ operand j (suc (level op)) y (expr y))
 joined-line LogicalOr x y j = refl
 joined-line LogicalAnd x y j = refl
-joined-line (Operation op) x y j = refl
+joined-line (Operation op) x y j =
+    ap (λ kind. operand j (operation_level op) x (expr x) ++ (kind ∷ operand j (suc (operation_level op)) y (expr y))) (same-operation op)
+
+-- behind the sign of a prefix operator
+signed : {form : Form} {l : ℕ} (op : PrefixOp) (x : Expr) (j : Bool)
+    → Expression form j l (on_line (prefix_sign op) ∷ line_of (operand j (prefix_least (changes op)) x (expr x))) (Tree.Prefix op x)
+    → Expression form j l (line_of (expr (Tree.Prefix op x) j)) (Tree.Prefix op x)
+signed op x j d = moved d (ap (λ kind. on_line kind ∷ line_of (operand j (prefix_least (changes op)) x (expr x))) (same-prefix op))
 
 assigned : (o : Option Mark) (joint : Mark) → o ≡ Some joint → o ≡ Some (assignment_mark o)
 assigned (Some joint) other h = refl
@@ -380,11 +390,12 @@ mutual
       (ap (λ t. word w.New false ∷ t) (line-append (operand_for (is_function x || has_call x) j 16 x (expr x)) (enclosed (exprs xs))))
   again (g.bare_new {x = x} c h dx) j in_may = new-again x j (callee-again dx)
   again (g.postfix {x = x} op h dx t) j in_may =
-      moved (g.postfix op (lit≤ tt) (operand-at j 16 (lit≤ tt) (again dx)) t) (line-append (operand j 16 x (expr x)) (postfix_sign op ∷ []))
+      moved (g.postfix op (lit≤ tt) (operand-at j 16 (lit≤ tt) (again dx)) t)
+      (line-append (operand j 16 x (expr x)) (shown.postfix_sign op ∷ []) ∙ ap (λ kind. line_of (operand j 16 x (expr x)) ++ (on_line kind ∷ [])) (same-postfix op))
   again {form = form} (g.prefix {x = x} op c h n dx) j in_may =
-      g.prefix op false (lit≤ tt) n (subst (λ l. Expression form j l (line_of (operand j (prefix_least (changes op)) x (expr x))) x) (ap prefix_least n) (operand-at j (prefix_least (changes op)) (least-of (changes op)) (again dx)))
+      signed op x j (g.prefix op false (lit≤ tt) n (subst (λ l. Expression form j l (line_of (operand j (prefix_least (changes op)) x (expr x))) x) (ap prefix_least n) (operand-at j (prefix_least (changes op)) (least-of (changes op)) (again dx))))
   again {form = form} (g.changed {x = x} op c h n dx t) j in_may =
-      g.changed op false (lit≤ tt) n (subst (λ l. Expression form j l (line_of (operand j (prefix_least (changes op)) x (expr x))) x) (ap prefix_least n) (operand-at j (prefix_least (changes op)) (least-of (changes op)) (again dx))) t
+      signed op x j (g.changed op false (lit≤ tt) n (subst (λ l. Expression form j l (line_of (operand j (prefix_least (changes op)) x (expr x))) x) (ap prefix_least n) (operand-at j (prefix_least (changes op)) (least-of (changes op)) (again dx))) t)
   again {form = form} (g.binary {x = x} {y = y} op c h m dx dy) j in_may = let most = level-most op in
       subst (λ l. Expression form j l (line_of (expr (joined op x y) j)) (joined op x y)) (sym (exact-joined op x y))
       (moved (g.binary op false (omega arith) (may-operate j op x y in_may) (operand-at j (level op) (omega arith) (again dx)) (operand-at j (suc (level op)) (omega arith) (again dy)))
@@ -395,7 +406,8 @@ mutual
       ∙ ap (λ t. line_of (operand j 4 x (expr x)) ++ (mark m.Question false ∷ t)) (between (operand j 2 y (expr y)) (k.Mark m.Colon) (operand j 2 z (expr z))))
   again (g.assign {x = x} {y = y} op joint c h a dx t dy) j in_may =
       moved (g.assign op (assignment_mark (assignment op)) false (lit≤ tt) (assigned (assignment op) joint a) (operand-at j 16 (lit≤ tt) (again dx)) t (operand-at j 2 (lit≤ tt) (again dy)))
-      (between (operand j 16 x (expr x)) (k.Mark (assignment_mark (assignment op))) (operand j 2 y (expr y)))
+      (between (operand j 16 x (expr x)) (k.Mark (assignment_mark (shown.assignment op))) (operand j 2 y (expr y))
+      ∙ ap (λ o. line_of (operand j 16 x (expr x)) ++ (mark (assignment_mark o) false ∷ line_of (operand j 2 y (expr y)))) (same-assignment op))
   again (g.comma {x = x} {y = y} c h dx dy) j in_may =
       moved (g.comma false (lit≤ tt) (operand-at j 1 (lit≤ tt) (again dx)) (operand-at j 2 (lit≤ tt) (again dy))) (between (operand j 1 x (expr x)) (k.Mark m.Comma) (operand j 2 y (expr y)))
 
@@ -559,5 +571,10 @@ mutual
       subst (λ t. SourceElements form c t other (Tree.MoreStmts s ss)) (sym (line-append (stmt s) (stmts ss)))
       (g.source_and (element-again d (first (line_of (stmts ss)) other) (elements-follow ds rest h)) rest)
 
+-- also where the end stands on a line of its own or not
+pub read_back_to : (form : Form) (tokens : Symbols) (tree : Tree.Script) → Derives form tokens tree → (newline : Bool) → Derives form (line_of (stmts tree) ++ (end newline ∷ [])) tree
+read_back_to form tokens tree d newline =
+    record { elements = line_of (stmts tree); newline = newline; whole = refl; derived = source-again d.derived (end newline) (λ e. cc) }
+
 pub read_back : (form : Form) (tokens : Symbols) (tree : Tree.Script) → Derives form tokens tree → Derives form (line_of (stmts tree) ++ (end false ∷ [])) tree
-read_back form tokens tree d = record { elements = line_of (stmts tree); newline = false; whole = refl; derived = source-again d.derived (end false) (λ e. cc) }
+read_back form tokens tree d = read_back_to form tokens tree d false

@@ -1,1 +1,2 @@
+pub mod WritableKinds
 pub mod ReadsBack
