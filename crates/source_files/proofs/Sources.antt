@@ -1,5 +1,5 @@
 -- What holds of the bytes of source scripts.
-use Rattle.std.proofs.Common.{◌≡◌, ℕ, ◌≤◌, ◌<◌, nat_lt, Bool, true, false, List, [], ◌∷◌, ◌++◌, length, Result, Ok, Err, refl, ap, sym, ◌∙◌, subst, ◌⊎◌, inl, inr, arith}
+use Rattle.std.proofs.Common.{◌≡◌, ℕ, ◌≤◌, ◌<◌, nat_lt, Bool, true, false, List, [], ◌∷◌, ◌++◌, length, Result, Ok, Err, Some, refl, ap, sym, ◌∙◌, subst, ◌⊎◌, inl, inr, arith}
 use Rattle.std.proofs.lemmas.Bool.{ltb-true, ltb-false}
 use Rattle.std.proofs.lemmas.Str.{IsUtf8-from_is_utf8, is_utf8-from_IsUtf8}
 use Rattle.std.specs.Str.{IsUtf8, is_utf8, chars}
@@ -27,7 +27,9 @@ use Rattle.source_files.specs.declared.fault.ScriptFault.TheVariants as fault
 use Rattle.source_files.specs.declared.fault.SourceError.{SourceError}
 use Rattle.source_files.specs.declared.fault.SourceError.TheVariants as error
 use Rattle.source_files.specs.declared.room.SourceRoom.{SourceRoom}
-use Rattle.source_files.specs.Reading.{Gives, IsTree}
+use Rattle.dl_ports.specs.Files.{Files, and_name}
+use Rattle.dl_ports.specs.Stores.{AskedNames}
+use Rattle.source_files.specs.Reading.{FileGives, Gives, IsTree}
 use Rattle.source_files.specs.Sources.{Fits, HasTokens, IsSource, IsTold, IsRefused, limits}
 
 -- ---- one tree, or a refusal
@@ -55,7 +57,7 @@ not_refused room bytes t (fault.TooDeep place) a r = not-told room bytes t (pars
 not_refused room bytes t (fault.TooMany place) a r = not-told room bytes t (parser.TooMany place) a r
 
 -- what is told, as a refusal
-pub refusal : Answer → ScriptFault
+abbrev pub refusal : Answer → ScriptFault
 refusal (parser.Syntax place) = fault.Syntax place
 refusal (parser.Refused place c) = fault.Construct place c
 refusal (parser.TooDeep place) = fault.TooDeep place
@@ -90,9 +92,12 @@ judged-text room bytes true h is = inr (fault.TooLong, (is, ltb-true room.bytes 
 judged-text room bytes false h is =
     judged-lexed room bytes (record { is_text = is; is_short = ltb-false room.bytes (length bytes) h }) (lexer.every_text_is_lexed (chars bytes))
 
+not-both : {b : Bool} → b ≡ false → b ≡ true → ⊥
+not-both h i = let e = sym i ∙ h in cc
+
 judged-bytes : (room : SourceRoom) (bytes : List ℕ) (b : Bool) → is_utf8 bytes ≡ b → Judged room bytes
 judged-bytes room bytes true h = judged-text room bytes (nat_lt room.bytes (length bytes)) refl (IsUtf8-from_is_utf8 bytes h)
-judged-bytes room bytes false h = inr (fault.NotUtf8 (utf8_valid_len bytes), ((λ is. absurd (true-not-false (sym (is_utf8-from_IsUtf8 bytes is) ∙ h))), refl))
+judged-bytes room bytes false h = inr (fault.NotUtf8 (utf8_valid_len bytes), ((λ is. not-both h (is_utf8-from_IsUtf8 bytes is)), refl))
 
 pub judged : (room : SourceRoom) (bytes : List ℕ) → ((t : tree.Script) × IsSource room bytes t) ⊎ ((f : ScriptFault) × IsRefused room bytes f)
 judged room bytes = judged-bytes room bytes (is_utf8 bytes) refl
@@ -105,3 +110,12 @@ exact room bytes (Err (error.Refused f)) g t a = absurd (not_refused room bytes 
 exact room bytes (Err error.OutOfMemory) g t a = refl
 exact room bytes (Err error.ReadFault) g t a = absurd g
 exact room bytes (Err error.Missing) g t a = absurd g
+
+-- the file of this name has bytes that give this result
+pub of_file : (files : Files) (name : List ℕ) (room : SourceRoom) (before now : AskedNames) (bytes : List ℕ) (r : Result Script SourceError) → files name ≡ Some bytes
+    → now ≡ and_name before name → Gives room bytes r → FileGives files name room before now r
+of_file files name room before now bytes (Ok script) f a g = (record { bytes = bytes; found = f; is = g }, a)
+of_file files name room before now bytes (Err (error.Refused fault)) f a g = (record { bytes = bytes; found = f; is = g }, a)
+of_file files name room before now bytes (Err error.OutOfMemory) f a g = inr a
+of_file files name room before now bytes (Err error.ReadFault) f a g = absurd g
+of_file files name room before now bytes (Err error.Missing) f a g = absurd g

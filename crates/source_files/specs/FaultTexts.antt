@@ -6,7 +6,7 @@ use Rattle.js_lexer.specs.FaultTexts.{kind_text, place_text}
 use Rattle.js_parser.specs.declared.form.Construct.{Construct}
 use Rattle.js_parser.specs.declared.form.Construct.TheVariants as c
 use Rattle.source_files.specs.declared.fault.ScriptFault.{ScriptFault}
-use Rattle.source_files.specs.declared.fault.ScriptFault.TheVariants.{NotUtf8, TooLong, Lexical, Syntax, Construct, TooDeep, TooMany}
+use Rattle.source_files.specs.declared.fault.ScriptFault.TheVariants as fault
 
 -- the name of what is refused by a name of its own
 abbrev pub construct_text : Construct → List ℕ
@@ -27,10 +27,10 @@ abbrev pub at_place : List ℕ → Place → List ℕ
 at_place kind place = kind ++ (codes " at " ++ place_text place)
 
 abbrev pub fault_text : ScriptFault → List ℕ
-fault_text (NotUtf8 n) = codes "NotUtf8 at byte " ++ decimal n
-fault_text TooLong = codes "TooLong"
-fault_text (Lexical place kind) = at_place (kind_text kind) place
-fault_text (Syntax place) = at_place (codes "Syntax") place
-fault_text (Construct place construct) = at_place (construct_text construct) place
-fault_text (TooDeep place) = at_place (codes "TooDeep") place
-fault_text (TooMany place) = at_place (codes "TooMany") place
+fault_text (fault.NotUtf8 n) = codes "NotUtf8 at byte " ++ decimal n
+fault_text fault.TooLong = codes "TooLong"
+fault_text (fault.Lexical place kind) = at_place (kind_text kind) place
+fault_text (fault.Syntax place) = at_place (codes "Syntax") place
+fault_text (fault.Construct place construct) = at_place (construct_text construct) place
+fault_text (fault.TooDeep place) = at_place (codes "TooDeep") place
+fault_text (fault.TooMany place) = at_place (codes "TooMany") place

@@ -1,10 +1,10 @@
 //! From the bytes of a file to the tree of its script.
 
-ghost use Rattle.std.specs.Prelude.{◌≡◌, ◌≤◌, ◌⊎◌, IsErrOf};
+ghost use Rattle.std.specs.Prelude.{◌≤◌, IsErrOf};
 ghost use Rattle.std.specs.Option.{ForSome};
 ghost use Rattle.dl_ports.specs.Stores.{OnlyReads};
 ghost use Rattle.js_tree.specs.Tree as tree;
-ghost use Rattle.source_files.specs.Reading.{FileGives, Gives, IsTree, OfFile};
+ghost use Rattle.source_files.specs.Reading.{FileGives, Gives, IsTree};
 ghost use Rattle.source_files.specs.Sources.{Fits, IsSource, most_source_bytes};
 
 use crate::fault::{ScriptFault, SourceError};
@@ -57,9 +57,6 @@ pub fn read_source<S: Store>(
     requires bounded { room.bytes ≤ most_source_bytes }
     ensures gives { ForSome (S.files store.old) (λ files.
         FileGives files name.now room (S.asked store.old) (S.asked store.new) result) }
-    ensures exactly { ForSome (S.files store.old) (λ files. (tree : tree.Script)
-        → OfFile files name.now (λ bytes. IsSource room bytes tree)
-        → IsErrOf result SourceError.ReadFault ⊎ IsTree tree result) }
     ensures reads { OnlyReads S.Store store.old store.new (IsErrOf result SourceError.ReadFault) }
 {
     match store.read(name)? {

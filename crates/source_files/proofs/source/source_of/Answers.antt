@@ -1,0 +1,5 @@
+use Rattle.source_files.proofs.Sources.{exact}
+use Rattle.source_files.proofs.source.source_of.Goals as goal
+
+pub returns-clause-exactly : goal.returns-clause-exactly
+returns-clause-exactly c tree a = exact c.args.room c.args.bytes.now c.script_of.result c.script_of.ensures.gives tree a
