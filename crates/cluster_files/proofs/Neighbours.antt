@@ -1,10 +1,10 @@
 -- Kinds of tokens that may be written, and stand side by side, such that each is read again.
-use Rattle.std.proofs.Common.{◌≡◌, ℕ, zero, suc, ◌+◌, ◌^◌, ◌≤◌, ◌<◌, ◌==◌, nat_lt, nat_le, Bool, true, false, not, ◌&&◌, ◌||◌, List, [], ◌∷◌, ◌++◌, codes, length, Option, Some, None, cond, refl, ap, sym, ◌∙◌, subst, arith, lit<}
+use Rattle.std.proofs.Common.{◌≡◌, ℕ, ◌^◌, ◌≤◌, ◌<◌, ◌==◌, nat_le, Bool, true, false, not, ◌&&◌, ◌||◌, List, [], ◌∷◌, ◌++◌, codes, length, Some, None, refl, ap, sym, ◌∙◌, subst, arith, lit<}
 use Rattle.std.specs.List.{list_all, flat_map}
 use Rattle.std.specs.Char.{is_ascii_alphabetic, is_ascii_alphanumeric}
 use Rattle.std.specs.Char.Utf16.{utf16_lossy_chars}
 use Rattle.std.specs.Fmt.{decimal}
-use Rattle.std.proofs.lemmas.Bool.{leb-true, lt-ltb, eqb-true}
+use Rattle.std.proofs.lemmas.Bool.{leb-true, eqb-true}
 use Rattle.std.proofs.lemmas.Bool.Decides.{nat_tests}
 use Rattle.std.proofs.lemmas.Fmt.{decimal_nonempty}
 use Rattle.unicode_ident.proofs.IdentLemmas.{is_xid_continue-ascii}
@@ -19,8 +19,6 @@ use Rattle.js_lexer.specs.declared.word.Word.{Word}
 use Rattle.js_lexer.specs.declared.front.Front.TheVariants.{Next}
 use Rattle.js_lexer.specs.declared.mark.Mark.{Mark}
 use Rattle.js_lexer.specs.declared.mark.Mark.TheVariants as m
-use Rattle.js_lexer.specs.declared.token.LexKind.{LexKind}
-use Rattle.js_lexer.specs.declared.token.LexKind.TheVariants as l
 use Rattle.js_lexer.specs.declared.token.TokenKind.{TokenKind}
 use Rattle.js_lexer.specs.declared.token.TokenKind.TheVariants as k
 use Rattle.js_lexer.proofs.Longest.{plain}
@@ -28,7 +26,7 @@ use Rattle.js_lexer.proofs.PieceLaws.{left, right}
 use Rattle.js_lexer.proofs.Within.{continues_first, mark_length}
 use Rattle.js_printer.specs.Printed.{Kinds}
 use Rattle.js_printer.specs.PrintedText.{spelled, last_is, needs_space, space}
-use Rattle.cluster_files.specs.WritableKinds.{IsWritable, AreWritable, are_units}
+use Rattle.cluster_files.specs.WritableKinds.{IsWritable, are_units}
 use Rattle.cluster_files.proofs.SpelledNames.{word_stands, word_continues, word_some, written_name_stands, name_text}
 use Rattle.cluster_files.proofs.SpelledNumbers.{number_stands, decimal_digits}
 use Rattle.cluster_files.proofs.SpelledStrings.{string_stands}

@@ -1,5 +1,5 @@
 -- In what a tree is written as at most two brackets are open for each node on the way down.
-use Rattle.std.proofs.Common.{if◌then◌else◌, ◌≡◌, ℕ, suc, ◌+◌, ◌-◌, ◌*◌, ◌≤◌, Bool, true, false, ◌&&◌, ◌||◌, nat_lt, List, [], ◌∷◌, ◌++◌, Option, Some, None, max, refl, ap, sym, ◌∙◌, subst, arith}
+use Rattle.std.proofs.Common.{if◌then◌else◌, ◌≡◌, ℕ, suc, ◌+◌, ◌-◌, ◌*◌, ◌≤◌, Bool, true, false, ◌&&◌, ◌||◌, nat_lt, List, [], ◌∷◌, ◌++◌, Option, Some, None, max, refl, sym, subst, arith}
 use Rattle.std.proofs.Math.Nat.{max-le}
 use Rattle.std.proofs.lemmas.List.{append_assoc, append-nil}
 use Rattle.std.specs.List.{list_all}
@@ -19,9 +19,9 @@ use Rattle.js_tree.specs.Heights.{expr_height, exprs_height, maybe_expr_height, 
 use Rattle.js_tree.specs.Levels.{operation_level, changes}
 use Rattle.js_tree.specs.Tree.{Name, Expr, Exprs, MaybeExpr, Elements, Pairs, Stmt, Stmts, VarItems, Cases, ForInit, ForTarget, MaybeStmt, Handler, Func}
 use Rattle.js_tree.specs.Tree
-use Rattle.js_parser.specs.Symbols.{Symbols, end}
+use Rattle.js_parser.specs.Symbols.{end}
 use Rattle.js_parser.specs.Accepted.{opened, most_open}
-use Rattle.js_printer.specs.Printed.{Kinds, is_number, is_function, has_call, enclosed, enclosed_if, needs, operand_for, operand, key_kind, truth_kind, assignment_mark, prefix_least, names, maybe_name, begins_as_another}
+use Rattle.js_printer.specs.Printed.{Kinds, is_number, is_function, has_call, enclosed, enclosed_if, needs, operand_for, operand, key_kind, assignment_mark, prefix_least, names, maybe_name, begins_as_another}
 use Rattle.js_printer.specs.Printed.{expr, exprs, other_exprs, maybe_expr, element, elements, other_elements, pairs, other_pairs, func, stmt, stmts, else_part, handler, finally_part, for_init, for_target, var_items, other_var_items, initialiser, cases, case_head}
 use Rattle.js_printer.specs.Signs.{operation_sign, prefix_sign, postfix_sign, assignment}
 use Rattle.cluster_files.specs.ReadsBack.{line_of}
@@ -134,15 +134,19 @@ mutual
       (operand_under (is_number x || is_function x) i 16 x (written x) top n (k.Mark m.Dot ∷ (k.Name name ∷ v)) (omega arith) (omega arith, (omega arith, u)))
   written (Tree.Index x key) top n i v h u =
       joined top n (operand_for (is_function x) i 16 x (expr x)) (k.Mark m.OpenBracket ∷ (operand true 1 key (expr key) ++ (k.Mark m.CloseBracket ∷ []))) v
-      (operand_under (is_function x) i 16 x (written x) top n (k.Mark m.OpenBracket ∷ ((operand true 1 key (expr key) ++ (k.Mark m.CloseBracket ∷ [])) ++ v)) (omega arith)
-      (omega arith, joined top (suc n) (operand true 1 key (expr key)) (k.Mark m.CloseBracket ∷ []) v
-      (operand_under false true 1 key (written key) top (suc n) (k.Mark m.CloseBracket ∷ v) (omega arith) (closed top n v (omega arith) u))))
+      (operand_under (is_function x) i 16 x (written x) top n (k.Mark m.OpenBracket ∷ ((operand true 1 key (expr key) ++ (k.Mark m.CloseBracket ∷ [])) ++ v)) (omega arith) (
+        omega arith,
+        joined top (suc n) (operand true 1 key (expr key)) (k.Mark m.CloseBracket ∷ []) v
+            (operand_under false true 1 key (written key) top (suc n) (k.Mark m.CloseBracket ∷ v) (omega arith) (closed top n v (omega arith) u)),
+      ))
   written (Tree.Call x es) top n i v h u =
       joined top n (operand_for (is_function x) i 16 x (expr x)) (enclosed (exprs es)) v
       (operand_under (is_function x) i 16 x (written x) top n (enclosed (exprs es) ++ v) (omega arith) (arguments_under es (exprs_under es) top n v (omega arith) u))
-  written (Tree.New x es) top n i v h u =
-      (omega arith, joined top n (operand_for (is_function x || has_call x) i 16 x (expr x)) (enclosed (exprs es)) v
-      (operand_under (is_function x || has_call x) i 16 x (written x) top n (enclosed (exprs es) ++ v) (omega arith) (arguments_under es (exprs_under es) top n v (omega arith) u)))
+  written (Tree.New x es) top n i v h u = (
+    omega arith,
+    joined top n (operand_for (is_function x || has_call x) i 16 x (expr x)) (enclosed (exprs es)) v
+        (operand_under (is_function x || has_call x) i 16 x (written x) top n (enclosed (exprs es) ++ v) (omega arith) (arguments_under es (exprs_under es) top n v (omega arith) u)),
+  )
   written (Tree.Postfix x op) top n i v h u =
       joined top n (operand i 16 x (expr x)) (postfix_sign op ∷ []) v
       (operand_under false i 16 x (written x) top n (postfix_sign op ∷ v) (omega arith) (beside top n (postfix_sign op) v (omega arith) (postfix_opens op n) u))
@@ -171,9 +175,11 @@ mutual
 
   other_exprs_under : (es : Exprs) (top n : ℕ) (v : Kinds) → n + 2 * exprs_height by_nodes es + 1 ≤ top → Under top n v → Under top n (other_exprs es ++ v)
   other_exprs_under Tree.NoExprs top n v h u = u
-  other_exprs_under (Tree.MoreExprs e es) top n v h u =
-      (omega arith, joined top n (operand true 2 e (expr e)) (other_exprs es) v
-      (operand_under false true 2 e (written e) top n (other_exprs es ++ v) (omega arith) (other_exprs_under es top n v (omega arith) u)))
+  other_exprs_under (Tree.MoreExprs e es) top n v h u = (
+    omega arith,
+    joined top n (operand true 2 e (expr e)) (other_exprs es) v
+        (operand_under false true 2 e (written e) top n (other_exprs es ++ v) (omega arith) (other_exprs_under es top n v (omega arith) u)),
+  )
 
   maybe_expr_under : (e : MaybeExpr) (top n : ℕ) (v : Kinds) → n + 2 * maybe_expr_height by_nodes e ≤ top → Under top n v → Under top n (maybe_expr e ++ v)
   maybe_expr_under Tree.NoExpr top n v h u = u
@@ -191,26 +197,36 @@ mutual
   other_elements_under : (e : MaybeExpr) (es : Elements) (top n : ℕ) (v : Kinds) → n + 2 * elements_height by_nodes es + 1 ≤ top → Under top n v → Under top n (other_elements e es ++ v)
   other_elements_under Tree.NoExpr Tree.NoElements top n v h u = (omega arith, u)
   other_elements_under (Tree.AnExpr x) Tree.NoElements top n v h u = u
-  other_elements_under Tree.NoExpr (Tree.MoreElements next es) top n v h u =
-      (omega arith, joined top n (element next) (other_elements next es) v
-      (element_under next top n (other_elements next es ++ v) (omega arith) (other_elements_under next es top n v (omega arith) u)))
-  other_elements_under (Tree.AnExpr x) (Tree.MoreElements next es) top n v h u =
-      (omega arith, joined top n (element next) (other_elements next es) v
-      (element_under next top n (other_elements next es ++ v) (omega arith) (other_elements_under next es top n v (omega arith) u)))
+  other_elements_under Tree.NoExpr (Tree.MoreElements next es) top n v h u = (
+    omega arith,
+    joined top n (element next) (other_elements next es) v
+        (element_under next top n (other_elements next es ++ v) (omega arith) (other_elements_under next es top n v (omega arith) u)),
+  )
+  other_elements_under (Tree.AnExpr x) (Tree.MoreElements next es) top n v h u = (
+    omega arith,
+    joined top n (element next) (other_elements next es) v
+        (element_under next top n (other_elements next es ++ v) (omega arith) (other_elements_under next es top n v (omega arith) u)),
+  )
 
   pairs_under : (ps : Pairs) (top n : ℕ) (v : Kinds) → n + 2 * pairs_height by_nodes ps + 1 ≤ top → Under top n v → Under top n (pairs ps ++ v)
   pairs_under Tree.NoPairs top n v h u = u
   pairs_under (Tree.MorePairs key value ps) top n v h u =
-      beside top n (key_kind key) (k.Mark m.Colon ∷ ((operand true 2 value (expr value) ++ other_pairs ps) ++ v)) (omega arith) (key_opens key n)
-      (omega arith, joined top n (operand true 2 value (expr value)) (other_pairs ps) v
-      (operand_under false true 2 value (written value) top n (other_pairs ps ++ v) (omega arith) (other_pairs_under ps top n v (omega arith) u)))
+      beside top n (key_kind key) (k.Mark m.Colon ∷ ((operand true 2 value (expr value) ++ other_pairs ps) ++ v)) (omega arith) (key_opens key n) (
+        omega arith,
+        joined top n (operand true 2 value (expr value)) (other_pairs ps) v
+            (operand_under false true 2 value (written value) top n (other_pairs ps ++ v) (omega arith) (other_pairs_under ps top n v (omega arith) u)),
+      )
 
   other_pairs_under : (ps : Pairs) (top n : ℕ) (v : Kinds) → n + 2 * pairs_height by_nodes ps + 1 ≤ top → Under top n v → Under top n (other_pairs ps ++ v)
   other_pairs_under Tree.NoPairs top n v h u = u
-  other_pairs_under (Tree.MorePairs key value ps) top n v h u =
-      (omega arith, beside top n (key_kind key) (k.Mark m.Colon ∷ ((operand true 2 value (expr value) ++ other_pairs ps) ++ v)) (omega arith) (key_opens key n)
-      (omega arith, joined top n (operand true 2 value (expr value)) (other_pairs ps) v
-      (operand_under false true 2 value (written value) top n (other_pairs ps ++ v) (omega arith) (other_pairs_under ps top n v (omega arith) u))))
+  other_pairs_under (Tree.MorePairs key value ps) top n v h u = (
+    omega arith,
+    beside top n (key_kind key) (k.Mark m.Colon ∷ ((operand true 2 value (expr value) ++ other_pairs ps) ++ v)) (omega arith) (key_opens key n) (
+      omega arith,
+      joined top n (operand true 2 value (expr value)) (other_pairs ps) v
+          (operand_under false true 2 value (written value) top n (other_pairs ps ++ v) (omega arith) (other_pairs_under ps top n v (omega arith) u)),
+    ),
+  )
 
   func_under : (f : Func) (top n : ℕ) (v : Kinds) → n + 2 * func_height by_nodes f + 2 ≤ top → Under top n v → Under top n (func f ++ v)
   func_under (Tree.Code number name formals body role) top n v h u =
@@ -232,14 +248,18 @@ mutual
   stmt_under (Tree.Do x) top n v h u =
       joined top n (enclosed_if (begins_as_another (expr x true)) (expr x true)) (k.Mark m.Semicolon ∷ []) v
       (operand_by x (begins_as_another (expr x true)) true (written x) top n (k.Mark m.Semicolon ∷ v) (omega arith) (omega arith, u))
-  stmt_under (Tree.If test body other) top n v h u =
-      (omega arith, joined top n (enclosed (expr test true)) (stmt body ++ else_part other) v
-      (header_under test (written test) top n ((stmt body ++ else_part other) ++ v) (omega arith)
-      (joined top n (stmt body) (else_part other) v (stmt_under body top n (else_part other ++ v) (omega arith) (else_under other top n v (omega arith) u)))))
+  stmt_under (Tree.If test body other) top n v h u = (
+    omega arith,
+    joined top n (enclosed (expr test true)) (stmt body ++ else_part other) v
+        (header_under test (written test) top n ((stmt body ++ else_part other) ++ v) (omega arith)
+        (joined top n (stmt body) (else_part other) v (stmt_under body top n (else_part other ++ v) (omega arith) (else_under other top n v (omega arith) u)))),
+  )
   stmt_under (Tree.DoWhile body test) top n v h u =
-      let behind = k.Word w.While ∷ (enclosed (expr test true) ++ (k.Mark m.Semicolon ∷ [])) in
-      (omega arith, joined top n (stmt body) behind v (stmt_under body top n (behind ++ v) (omega arith)
-      (omega arith, joined top n (enclosed (expr test true)) (k.Mark m.Semicolon ∷ []) v (header_under test (written test) top n (k.Mark m.Semicolon ∷ v) (omega arith) (omega arith, u)))))
+      let behind = k.Word w.While ∷ (enclosed (expr test true) ++ (k.Mark m.Semicolon ∷ [])) in (
+        omega arith,
+        joined top n (stmt body) behind v (stmt_under body top n (behind ++ v) (omega arith)
+            (omega arith, joined top n (enclosed (expr test true)) (k.Mark m.Semicolon ∷ []) v (header_under test (written test) top n (k.Mark m.Semicolon ∷ v) (omega arith) (omega arith, u)))),
+      )
   stmt_under (Tree.While test body) top n v h u =
       (omega arith, joined top n (enclosed (expr test true)) (stmt body) v (header_under test (written test) top n (stmt body ++ v) (omega arith) (stmt_under body top n v (omega arith) u)))
   stmt_under (Tree.For first test next body) top n v h u =
@@ -265,15 +285,19 @@ mutual
   stmt_under (Tree.Return value) top n v h u =
       (omega arith, joined top n (maybe_expr value) (k.Mark m.Semicolon ∷ []) v (maybe_expr_under value top n (k.Mark m.Semicolon ∷ v) (omega arith) (omega arith, u)))
   stmt_under (Tree.Switch value cs) top n v h u =
-      let behind = k.Mark m.OpenBrace ∷ (cases cs ++ (k.Mark m.CloseBrace ∷ [])) in
-      (omega arith, joined top n (enclosed (expr value true)) behind v (header_under value (written value) top n (behind ++ v) (omega arith)
-      (omega arith, joined top (suc n) (cases cs) (k.Mark m.CloseBrace ∷ []) v (cases_under cs top (suc n) (k.Mark m.CloseBrace ∷ v) (omega arith) (closed top n v (omega arith) u)))))
+      let behind = k.Mark m.OpenBrace ∷ (cases cs ++ (k.Mark m.CloseBrace ∷ [])) in (
+        omega arith,
+        joined top n (enclosed (expr value true)) behind v (header_under value (written value) top n (behind ++ v) (omega arith)
+            (omega arith, joined top (suc n) (cases cs) (k.Mark m.CloseBrace ∷ []) v (cases_under cs top (suc n) (k.Mark m.CloseBrace ∷ v) (omega arith) (closed top n v (omega arith) u)))),
+      )
   stmt_under (Tree.Label name body) top n v h u = (omega arith, (omega arith, stmt_under body top n v (omega arith) u))
   stmt_under (Tree.Throw x) top n v h u =
       (omega arith, joined top n (expr x true) (k.Mark m.Semicolon ∷ []) v (written x top n true (k.Mark m.Semicolon ∷ v) (omega arith) (omega arith, u)))
-  stmt_under (Tree.Try block caught last) top n v h u =
-      (omega arith, joined top n (stmt block) (handler caught ++ finally_part last) v (stmt_under block top n ((handler caught ++ finally_part last) ++ v) (omega arith)
-      (joined top n (handler caught) (finally_part last) v (handler_under caught top n (finally_part last ++ v) (omega arith) (finally_under last top n v (omega arith) u)))))
+  stmt_under (Tree.Try block caught last) top n v h u = (
+    omega arith,
+    joined top n (stmt block) (handler caught ++ finally_part last) v (stmt_under block top n ((handler caught ++ finally_part last) ++ v) (omega arith)
+        (joined top n (handler caught) (finally_part last) v (handler_under caught top n (finally_part last ++ v) (omega arith) (finally_under last top n v (omega arith) u)))),
+  )
   stmt_under (Tree.Declare f) top n v h u = func_under f top n v (omega arith) u
   stmt_under (Tree.Used o) top n v h u = (omega arith, (omega arith, (omega arith, closed top n (k.Mark m.Semicolon ∷ v) (omega arith) (omega arith, u))))
 
@@ -309,15 +333,22 @@ mutual
 
   var_items_under : (items : VarItems) (i : Bool) (top n : ℕ) (v : Kinds) → n + 2 * var_items_height by_nodes items + 1 ≤ top → Under top n v → Under top n (var_items items i ++ v)
   var_items_under Tree.NoVarItems i top n v h u = u
-  var_items_under (Tree.MoreVarItems name value rest) i top n v h u =
-      (omega arith, joined top n (initialiser value i) (other_var_items rest i) v
-      (initialiser_under value i top n (other_var_items rest i ++ v) (omega arith) (other_var_items_under rest i top n v (omega arith) u)))
+  var_items_under (Tree.MoreVarItems name value rest) i top n v h u = (
+    omega arith,
+    joined top n (initialiser value i) (other_var_items rest i) v
+        (initialiser_under value i top n (other_var_items rest i ++ v) (omega arith) (other_var_items_under rest i top n v (omega arith) u)),
+  )
 
   other_var_items_under : (items : VarItems) (i : Bool) (top n : ℕ) (v : Kinds) → n + 2 * var_items_height by_nodes items + 1 ≤ top → Under top n v → Under top n (other_var_items items i ++ v)
   other_var_items_under Tree.NoVarItems i top n v h u = u
-  other_var_items_under (Tree.MoreVarItems name value rest) i top n v h u =
-      (omega arith, (omega arith, joined top n (initialiser value i) (other_var_items rest i) v
-      (initialiser_under value i top n (other_var_items rest i ++ v) (omega arith) (other_var_items_under rest i top n v (omega arith) u))))
+  other_var_items_under (Tree.MoreVarItems name value rest) i top n v h u = (
+    omega arith,
+    (
+      omega arith,
+      joined top n (initialiser value i) (other_var_items rest i) v
+          (initialiser_under value i top n (other_var_items rest i ++ v) (omega arith) (other_var_items_under rest i top n v (omega arith) u)),
+    ),
+  )
 
   cases_under : (cs : Cases) (top n : ℕ) (v : Kinds) → n + 2 * cases_height by_nodes cs ≤ top → Under top n v → Under top n (cases cs ++ v)
   cases_under Tree.NoCases top n v h u = u

@@ -1,12 +1,10 @@
 -- The kinds that the tree of read tokens is written as may be written, by induction on a derivation.
-use Rattle.std.proofs.Common.{if◌then◌else◌, ◌≡◌, ℕ, suc, ◌^◌, ◌<◌, Bool, true, false, not, ◌&&◌, ◌||◌, nat_lt, nat_le, List, [], ◌∷◌, ◌++◌, Option, Some, None, cond, refl, ap, sym, ◌∙◌, subst, arith}
-use Rattle.std.proofs.lemmas.List.{append_assoc}
+use Rattle.std.proofs.Common.{if◌then◌else◌, ◌≡◌, ℕ, suc, Bool, true, false, ◌&&◌, ◌||◌, nat_lt, nat_le, List, [], ◌∷◌, ◌++◌, Some, None, refl, subst, arith}
 use Rattle.std.proofs.lemmas.Bool.{leb-true, lt-ltb}
 use Rattle.std.specs.List.{list_all}
 use Rattle.std.specs.Fmt.{decimal}
 use Rattle.js_lexer.specs.Characters.{is_digit}
 use Rattle.js_lexer.specs.Names.{is_name}
-use Rattle.js_lexer.specs.declared.mark.Mark.{Mark}
 use Rattle.js_lexer.specs.declared.mark.Mark.TheVariants as m
 use Rattle.js_lexer.specs.declared.word.Word.TheVariants as w
 use Rattle.js_lexer.specs.declared.token.TokenKind.{TokenKind}
@@ -30,7 +28,7 @@ use Rattle.js_parser.specs.Grammar as g
 use Rattle.js_parser.specs.Accepted.{Derives}
 use Rattle.js_printer.specs.Printed.{Kinds, is_number, is_function, has_call, enclosed, enclosed_if, needs, operand_for, operand, key_kind, assignment_mark, prefix_least, names, begins_as_another}
 use Rattle.js_printer.specs.Printed.{expr, exprs, other_exprs, maybe_expr, elements, other_elements, pairs, other_pairs, handler, stmt, stmts, for_init, var_items, other_var_items, initialiser, cases}
-use Rattle.js_printer.specs.Signs.{sign, operation_sign, prefix_sign, postfix_sign, assignment}
+use Rattle.js_printer.specs.Signs.{operation_sign, prefix_sign, postfix_sign, assignment}
 use Rattle.cluster_files.specs.WritableKinds.{are_units, IsWritable, AreWritable, IsRead, AreRead}
 use Rattle.cluster_files.proofs.SpelledNumbers.{decimal_digits}
 
@@ -172,9 +170,11 @@ mutual
       (tt, both (operand true 1 y (expr y)) (k.Mark m.CloseBracket ∷ []) (operand_kinds false true 1 y (kinds dy (front v _ (rest u _ h).1))) (tt, tt))
   kinds (g.call {u = u} {v = v} {x = x} {xs = xs} e dx ys) h j =
       both (operand_for (is_function x) j 16 x (expr x)) (enclosed (exprs xs)) (operand_kinds (is_function x) j 16 x (kinds dx (front u v h))) (enclosed_kinds (exprs xs) (arguments_kinds ys (rest u v h)))
-  kinds (g.new {u = u} {v = v} {x = x} {xs = xs} c e dx ys) h j =
-      (tt, both (operand_for (is_function x || has_call x) j 16 x (expr x)) (enclosed (exprs xs)) (operand_kinds (is_function x || has_call x) j 16 x (kinds dx (front u v h.1)))
-      (enclosed_kinds (exprs xs) (arguments_kinds ys (rest u v h.1))))
+  kinds (g.new {u = u} {v = v} {x = x} {xs = xs} c e dx ys) h j = (
+    tt,
+    both (operand_for (is_function x || has_call x) j 16 x (expr x)) (enclosed (exprs xs)) (operand_kinds (is_function x || has_call x) j 16 x (kinds dx (front u v h.1)))
+        (enclosed_kinds (exprs xs) (arguments_kinds ys (rest u v h.1))),
+  )
   kinds (g.bare_new {x = x} c e dx) h j =
       (tt, both (operand_for (is_function x || has_call x) j 16 x (expr x)) (enclosed []) (operand_kinds (is_function x || has_call x) j 16 x (callee_kinds dx h.1)) (tt, (tt, tt)))
   kinds (g.postfix {u = u} {x = x} op e dx t) h j =
@@ -183,9 +183,11 @@ mutual
   kinds (g.changed {x = x} op c e n dx t) h j = prefix_kinds op x j (kinds dx h.1)
   kinds (g.binary {u = u} {x = x} {y = y} op c e may dx dy) h j = joined_kinds op x y j (kinds dx (front u _ h)) (kinds dy (rest u _ h).1)
   kinds (g.conditional {u = u} {v = v} {x = x} {y = y} {other = z} c d e dx dy dz) h j =
-      both (operand j 4 x (expr x)) (k.Mark m.Question ∷ (operand j 2 y (expr y) ++ (k.Mark m.Colon ∷ operand j 2 z (expr z)))) (operand_kinds false j 4 x (kinds dx (front u _ h)))
-      (tt, both (operand j 2 y (expr y)) (k.Mark m.Colon ∷ operand j 2 z (expr z)) (operand_kinds false j 2 y (kinds dy (front v _ (rest u _ h).1)))
-      (tt, operand_kinds false j 2 z (kinds dz (rest v _ (rest u _ h).1).1)))
+      both (operand j 4 x (expr x)) (k.Mark m.Question ∷ (operand j 2 y (expr y) ++ (k.Mark m.Colon ∷ operand j 2 z (expr z)))) (operand_kinds false j 4 x (kinds dx (front u _ h))) (
+        tt,
+        both (operand j 2 y (expr y)) (k.Mark m.Colon ∷ operand j 2 z (expr z)) (operand_kinds false j 2 y (kinds dy (front v _ (rest u _ h).1)))
+            (tt, operand_kinds false j 2 z (kinds dz (rest v _ (rest u _ h).1).1)),
+      )
   kinds (g.assign {u = u} {x = x} {y = y} op joint c e a dx t dy) h j =
       both (operand j 16 x (expr x)) (k.Mark (assignment_mark (assignment op)) ∷ operand j 2 y (expr y)) (operand_kinds false j 16 x (kinds dx (front u _ h)))
       (tt, operand_kinds false j 2 y (kinds dy (rest u _ h).1))
@@ -218,9 +220,14 @@ mutual
   pairs_kinds g.no_property h = tt
   pairs_kinds {form = form} (g.last_property {key = key} {x = x} s c r dx) h =
       (key_writable key (key_units form s.kind key r h.0), (tt, both (operand true 2 x (expr x)) [] (operand_kinds false true 2 x (kinds dx h.1.1)) tt))
-  pairs_kinds {form = form} (g.property_and {key = key} {u = u} {x = x} {ps = ps} s c d r dx xs) h =
-      (key_writable key (key_units form s.kind key r h.0), (tt, both (operand true 2 x (expr x)) (other_pairs ps) (operand_kinds false true 2 x (kinds dx (front u _ h.1.1)))
-      (others_of_pairs ps (pairs_kinds xs (rest u _ h.1.1).1))))
+  pairs_kinds {form = form} (g.property_and {key = key} {u = u} {x = x} {ps = ps} s c d r dx xs) h = (
+    key_writable key (key_units form s.kind key r h.0),
+    (
+      tt,
+      both (operand true 2 x (expr x)) (other_pairs ps) (operand_kinds false true 2 x (kinds dx (front u _ h.1.1)))
+          (others_of_pairs ps (pairs_kinds xs (rest u _ h.1.1).1)),
+    ),
+  )
 
   function_kinds : {form : Form} {u : Symbols} {ns : List Name} {body : Stmts} → FunctionRest form u ns body → AreRead u
       → AreWritable (enclosed (names ns) ++ (k.Mark m.OpenBrace ∷ (stmts body ++ (k.Mark m.CloseBrace ∷ []))))
@@ -257,58 +264,74 @@ mutual
       both (enclosed_if (begins_as_another (expr x true)) (expr x true)) (k.Mark m.Semicolon ∷ []) (enclosed_if_kinds (begins_as_another (expr x true)) (expr x true) (kinds dx (front u _ h) true)) (tt, tt)
   statement_kinds (g.if {u = u} {x = x} {s = s} c d e dx ds away) h =
       (tt, both (enclosed (expr x true)) (stmt s ++ []) (enclosed_kinds (expr x true) (kinds dx (front u _ h.1.1) true)) (both (stmt s) [] (statement_kinds ds (rest u _ h.1.1).1) tt))
-  statement_kinds (g.if_else {u = u} {v = v} {x = x} {s = s} {other = z} c d e f dx ds dz) h =
-      (tt, both (enclosed (expr x true)) (stmt s ++ (k.Word w.Else ∷ stmt z)) (enclosed_kinds (expr x true) (kinds dx (front u _ h.1.1) true))
-      (both (stmt s) (k.Word w.Else ∷ stmt z) (statement_kinds ds (front v _ (rest u _ h.1.1).1)) (tt, statement_kinds dz (rest v _ (rest u _ h.1.1).1).1)))
-  statement_kinds (g.do_while {u = u} {v = v} {x = x} {s = s} c d e f ds dx ends) h =
-      (tt, both (stmt s) (k.Word w.While ∷ (enclosed (expr x true) ++ (k.Mark m.Semicolon ∷ []))) (statement_kinds ds (front u _ h.1))
-      (tt, both (enclosed (expr x true)) (k.Mark m.Semicolon ∷ []) (enclosed_kinds (expr x true) (kinds dx (front v _ (rest u _ h.1).1.1) true)) (tt, tt)))
+  statement_kinds (g.if_else {u = u} {v = v} {x = x} {s = s} {other = z} c d e f dx ds dz) h = (
+    tt,
+    both (enclosed (expr x true)) (stmt s ++ (k.Word w.Else ∷ stmt z)) (enclosed_kinds (expr x true) (kinds dx (front u _ h.1.1) true))
+        (both (stmt s) (k.Word w.Else ∷ stmt z) (statement_kinds ds (front v _ (rest u _ h.1.1).1)) (tt, statement_kinds dz (rest v _ (rest u _ h.1.1).1).1)),
+  )
+  statement_kinds (g.do_while {u = u} {v = v} {x = x} {s = s} c d e f ds dx ends) h = (
+    tt,
+    both (stmt s) (k.Word w.While ∷ (enclosed (expr x true) ++ (k.Mark m.Semicolon ∷ []))) (statement_kinds ds (front u _ h.1))
+        (tt, both (enclosed (expr x true)) (k.Mark m.Semicolon ∷ []) (enclosed_kinds (expr x true) (kinds dx (front v _ (rest u _ h.1).1.1) true)) (tt, tt)),
+  )
   statement_kinds (g.while {u = u} {x = x} {s = s} c d e dx ds) h =
       (tt, both (enclosed (expr x true)) (stmt s) (enclosed_kinds (expr x true) (kinds dx (front u _ h.1.1) true)) (statement_kinds ds (rest u _ h.1.1).1))
   statement_kinds (g.for {u = u} {v = v} {z = z} {init = init} {test = test} {step = step} {s = s} c d e f r di dt dn ds) h =
       let behind = rest u _ h.1.1 in
-      let after = rest v _ behind.1 in
-      (tt, both (enclosed (for_init init ++ (k.Mark m.Semicolon ∷ (maybe_expr test ++ (k.Mark m.Semicolon ∷ maybe_expr step))))) (stmt s)
-      (enclosed_kinds (for_init init ++ (k.Mark m.Semicolon ∷ (maybe_expr test ++ (k.Mark m.Semicolon ∷ maybe_expr step))))
-      (both (for_init init) (k.Mark m.Semicolon ∷ (maybe_expr test ++ (k.Mark m.Semicolon ∷ maybe_expr step))) (first_kinds di (front u _ h.1.1))
-      (tt, both (maybe_expr test) (k.Mark m.Semicolon ∷ maybe_expr step) (optional_kinds dt (front v _ behind.1)) (tt, optional_kinds dn (front z _ after.1)))))
-      (statement_kinds ds (rest z _ after.1).1))
+      let after = rest v _ behind.1 in (
+        tt,
+        both (enclosed (for_init init ++ (k.Mark m.Semicolon ∷ (maybe_expr test ++ (k.Mark m.Semicolon ∷ maybe_expr step))))) (stmt s)
+            (enclosed_kinds (for_init init ++ (k.Mark m.Semicolon ∷ (maybe_expr test ++ (k.Mark m.Semicolon ∷ maybe_expr step))))
+            (both (for_init init) (k.Mark m.Semicolon ∷ (maybe_expr test ++ (k.Mark m.Semicolon ∷ maybe_expr step))) (first_kinds di (front u _ h.1.1))
+            (tt, both (maybe_expr test) (k.Mark m.Semicolon ∷ maybe_expr step) (optional_kinds dt (front v _ behind.1)) (tt, optional_kinds dn (front z _ after.1)))))
+            (statement_kinds ds (rest z _ after.1).1),
+      )
   statement_kinds (g.for_in {u = u} {v = v} {x = x} {y = y} {s = s} c d e f dx t dy ds) h =
-      let behind = rest u _ h.1.1 in
-      (tt, both (enclosed (operand false 16 x (expr x) ++ (k.Word w.In ∷ expr y true))) (stmt s)
-      (enclosed_kinds (operand false 16 x (expr x) ++ (k.Word w.In ∷ expr y true))
-      (both (operand false 16 x (expr x)) (k.Word w.In ∷ expr y true) (operand_kinds false false 16 x (kinds dx (front u _ h.1.1))) (tt, kinds dy (front v _ behind.1) true)))
-      (statement_kinds ds (rest v _ behind.1).1))
+      let behind = rest u _ h.1.1 in (
+        tt,
+        both (enclosed (operand false 16 x (expr x) ++ (k.Word w.In ∷ expr y true))) (stmt s)
+            (enclosed_kinds (operand false 16 x (expr x) ++ (k.Word w.In ∷ expr y true))
+            (both (operand false 16 x (expr x)) (k.Word w.In ∷ expr y true) (operand_kinds false false 16 x (kinds dx (front u _ h.1.1))) (tt, kinds dy (front v _ behind.1) true)))
+            (statement_kinds ds (rest v _ behind.1).1),
+      )
   statement_kinds (g.for_var_in {n = n} {u = u} {v = v} {value = value} {y = y} {s = s} c d e f r dx dy ds) h =
       let behind = rest u _ h.1.1.1 in
-      let target = k.Word w.Var ∷ (k.Name n ∷ initialiser value false) in
-      (tt, both (enclosed (target ++ (k.Word w.In ∷ expr y true))) (stmt s)
-      (enclosed_kinds (target ++ (k.Word w.In ∷ expr y true))
-      (both target (k.Word w.In ∷ expr y true) (tt, declarator_kinds dx (front u _ h.1.1.1) false) (tt, kinds dy (front v _ behind.1) true)))
-      (statement_kinds ds (rest v _ behind.1).1))
+      let target = k.Word w.Var ∷ (k.Name n ∷ initialiser value false) in (
+        tt,
+        both (enclosed (target ++ (k.Word w.In ∷ expr y true))) (stmt s)
+            (enclosed_kinds (target ++ (k.Word w.In ∷ expr y true))
+            (both target (k.Word w.In ∷ expr y true) (tt, declarator_kinds dx (front u _ h.1.1.1) false) (tt, kinds dy (front v _ behind.1) true)))
+            (statement_kinds ds (rest v _ behind.1).1),
+      )
   statement_kinds (g.continue c may ends) h = (tt, (tt, tt))
   statement_kinds (g.continue_to c r may ends) h = (tt, (h.1.0, (tt, tt)))
   statement_kinds (g.break c may ends) h = (tt, (tt, tt))
   statement_kinds (g.break_from c r may ends) h = (tt, (h.1.0, (tt, tt)))
   statement_kinds (g.return c may ends) h = (tt, (tt, tt))
   statement_kinds (g.return_value {u = u} {x = x} c may dx start ends) h = (tt, both (expr x true) (k.Mark m.Semicolon ∷ []) (kinds dx (front u _ h.1) true) (tt, tt))
-  statement_kinds (g.switch {u = u} {v = v} {x = x} {cs = cs} c d e f r dx dcs) h =
-      (tt, both (enclosed (expr x true)) (k.Mark m.OpenBrace ∷ (cases cs ++ (k.Mark m.CloseBrace ∷ []))) (enclosed_kinds (expr x true) (kinds dx (front u _ h.1.1) true))
-      (tt, both (cases cs) (k.Mark m.CloseBrace ∷ []) (clauses_kinds dcs (front v _ (rest u _ h.1.1).1.1)) (tt, tt)))
+  statement_kinds (g.switch {u = u} {v = v} {x = x} {cs = cs} c d e f r dx dcs) h = (
+    tt,
+    both (enclosed (expr x true)) (k.Mark m.OpenBrace ∷ (cases cs ++ (k.Mark m.CloseBrace ∷ []))) (enclosed_kinds (expr x true) (kinds dx (front u _ h.1.1) true))
+        (tt, both (cases cs) (k.Mark m.CloseBrace ∷ []) (clauses_kinds dcs (front v _ (rest u _ h.1.1).1.1)) (tt, tt)),
+  )
   statement_kinds (g.label c d r away ds) h = (h.0, (tt, statement_kinds ds h.1.1))
   statement_kinds (g.throw {u = u} {x = x} c dx start ends) h = (tt, both (expr x true) (k.Mark m.Semicolon ∷ []) (kinds dx (front u _ h.1) true) (tt, tt))
   statement_kinds (g.try_catch {n = n} {u = u} {v = v} {s = s} {handler = z} c d e f t ds r dz) h =
-      let behind = rest u _ h.1 in
-      (tt, both (stmt s) (handler (Tree.ACatch n z) ++ []) (block_kinds ds (front u _ h.1))
-      (both (handler (Tree.ACatch n z)) [] (tt, (tt, (behind.1.1.0, (tt, block_kinds dz behind.1.1.1.1)))) tt))
+      let behind = rest u _ h.1 in (
+        tt,
+        both (stmt s) (handler (Tree.ACatch n z) ++ []) (block_kinds ds (front u _ h.1))
+            (both (handler (Tree.ACatch n z)) [] (tt, (tt, (behind.1.1.0, (tt, block_kinds dz behind.1.1.1.1)))) tt),
+      )
   statement_kinds (g.try_finally {u = u} {s = s} {last = z} c d ds dz) h =
       (tt, both (stmt s) (k.Word w.Finally ∷ stmt z) (block_kinds ds (front u _ h.1)) (tt, block_kinds dz (rest u _ h.1).1))
   statement_kinds (g.try_catch_finally {n = n} {u = u} {v = v} {s = s} {handler = y} {last = z} c d e f t o ds r dy dz) h =
       let behind = rest u _ h.1 in
-      let after = behind.1.1.1.1 in
-      (tt, both (stmt s) (handler (Tree.ACatch n y) ++ (k.Word w.Finally ∷ stmt z)) (block_kinds ds (front u _ h.1))
-      (both (handler (Tree.ACatch n y)) (k.Word w.Finally ∷ stmt z) (tt, (tt, (behind.1.1.0, (tt, block_kinds dy (front v _ after)))))
-      (tt, block_kinds dz (rest v _ after).1)))
+      let after = behind.1.1.1.1 in (
+        tt,
+        both (stmt s) (handler (Tree.ACatch n y) ++ (k.Word w.Finally ∷ stmt z)) (block_kinds ds (front u _ h.1))
+            (both (handler (Tree.ACatch n y)) (k.Word w.Finally ∷ stmt z) (tt, (tt, (behind.1.1.0, (tt, block_kinds dy (front v _ after)))))
+            (tt, block_kinds dz (rest v _ after).1)),
+      )
 
   list_kinds : {form : Form} {c : Context} {u : Symbols} {next : Symbol} {ss : Stmts} → StatementList form c u next ss → AreRead u → AreWritable (stmts ss)
   list_kinds g.no_statement h = tt
@@ -317,9 +340,11 @@ mutual
   clauses_kinds : {form : Form} {c : Context} {may : Bool} {u : Symbols} {next : Symbol} {cs : Cases} → CaseClauses form c may u next cs → AreRead u → AreWritable (cases cs)
   clauses_kinds g.no_clause h = tt
   clauses_kinds (g.case_and {u = u} {v = v} {z = z} {x = x} {ss = ss} {cs = cs} c d dx ds dcs) h =
-      let behind = rest u _ h.1 in
-      (tt, both (expr x true) (k.Mark m.Colon ∷ (stmts ss ++ cases cs)) (kinds dx (front u _ h.1) true)
-      (tt, both (stmts ss) (cases cs) (list_kinds ds (front v z behind.1)) (clauses_kinds dcs (rest v z behind.1))))
+      let behind = rest u _ h.1 in (
+        tt,
+        both (expr x true) (k.Mark m.Colon ∷ (stmts ss ++ cases cs)) (kinds dx (front u _ h.1) true)
+            (tt, both (stmts ss) (cases cs) (list_kinds ds (front v z behind.1)) (clauses_kinds dcs (rest v z behind.1))),
+      )
   clauses_kinds (g.default_and {v = v} {z = z} {ss = ss} {cs = cs} c d ds dcs) h =
       (tt, (tt, both (stmts ss) (cases cs) (list_kinds ds (front v z h.1.1)) (clauses_kinds dcs (rest v z h.1.1))))
 

@@ -3,7 +3,6 @@ use Rattle.std.proofs.Common.{if◌then◌else◌, ◌≡◌, ℕ, suc, Bool, tr
 use Rattle.std.proofs.lemmas.List.{append_assoc, append-nil}
 use Rattle.js_lexer.specs.declared.mark.Mark.TheVariants as m
 use Rattle.js_lexer.specs.declared.word.Word.TheVariants as w
-use Rattle.js_lexer.specs.declared.token.TokenKind.{TokenKind}
 use Rattle.js_lexer.specs.declared.token.TokenKind.TheVariants as k
 use Rattle.js_tree.specs.declared.tree.BinaryOp.{BinaryOp}
 use Rattle.js_tree.specs.declared.tree.BinaryOp.TheVariants as b
@@ -11,12 +10,12 @@ use Rattle.js_tree.specs.declared.tree.PrefixOp.{PrefixOp}
 use Rattle.js_tree.specs.declared.tree.PrefixOp.TheVariants as p
 use Rattle.js_tree.specs.declared.tree.PostfixOp.{PostfixOp}
 use Rattle.js_tree.specs.declared.tree.PostfixOp.TheVariants as q
-use Rattle.js_tree.specs.Levels.{LogicalOr, LogicalAnd, Operation, level, operation_level, is_in_operation, changes}
+use Rattle.js_tree.specs.Levels.{operation_level, is_in_operation, changes}
 use Rattle.js_tree.specs.Tree.{Name, Expr, Exprs, MaybeExpr, Elements, Pairs, Stmt, Stmts, VarItems, Cases, ForInit, ForTarget, MaybeStmt, Handler, Func}
 use Rattle.js_tree.specs.Tree
 use Rattle.js_lexer.specs.Names.{is_name}
 use Rattle.std.specs.List.{list_all}
-use Rattle.js_printer.specs.Printed.{Kinds, is_number, is_function, has_call, enclosed, enclosed_if, needs, operand_for, operand, key_kind, truth_kind, assignment_mark, prefix_least, names, maybe_name, begins_as_another, expression_statement}
+use Rattle.js_printer.specs.Printed.{Kinds, is_number, is_function, has_call, enclosed, enclosed_if, needs, operand_for, operand, key_kind, assignment_mark, prefix_least, names, maybe_name, begins_as_another}
 use Rattle.js_printer.specs.Printed.{expr, exprs, other_exprs, maybe_expr, element, elements, other_elements, pairs, other_pairs, func, stmt, stmts, else_part, handler, finally_part, for_init, for_target, var_items, other_var_items, initialiser, cases, case_head}
 use Rattle.js_printer.specs.Signs.{operation_sign, prefix_sign, postfix_sign, assignment}
 use Rattle.cluster_files.proofs.Neighbours.{is_quiet, is_no_dot, heads, next_fits, AllFit}
@@ -324,8 +323,11 @@ mutual
       (operand_good (is_function x) i 16 x (written x) (enclosed (exprs es) ++ v) (arguments_fit es (exprs_fit es) v f) (λ o. refl))
   written (Tree.New x es) i v f h =
       record {
-        all = (refl, joined_fits (operand_for (is_function x || has_call x) i 16 x (expr x)) (enclosed (exprs es)) v
-            (operand_good (is_function x || has_call x) i 16 x (written x) (enclosed (exprs es) ++ v) (arguments_fit es (exprs_fit es) v f) (λ o. refl)).all);
+        all = (
+          refl,
+          joined_fits (operand_for (is_function x || has_call x) i 16 x (expr x)) (enclosed (exprs es)) v
+              (operand_good (is_function x || has_call x) i 16 x (written x) (enclosed (exprs es) ++ v) (arguments_fit es (exprs_fit es) v f) (λ o. refl)).all,
+        );
         quiet = refl;
       }
   written (Tree.Postfix x op) i v f h =
@@ -372,9 +374,11 @@ mutual
 
   other_exprs_fit : (es : Exprs) (v : Kinds) → AllFit v → NoDot v → AllFit (other_exprs es ++ v)
   other_exprs_fit Tree.NoExprs v f h = f
-  other_exprs_fit (Tree.MoreExprs e es) v f h =
-      (refl, joined_fits (operand true 2 e (expr e)) (other_exprs es) v
-      (operand_good false true 2 e (written e) (other_exprs es ++ v) (other_exprs_fit es v f h) (λ o. arguments_no_dot es v h)).all)
+  other_exprs_fit (Tree.MoreExprs e es) v f h = (
+    refl,
+    joined_fits (operand true 2 e (expr e)) (other_exprs es) v
+        (operand_good false true 2 e (written e) (other_exprs es ++ v) (other_exprs_fit es v f h) (λ o. arguments_no_dot es v h)).all,
+  )
 
   maybe_expr_fits : (e : MaybeExpr) (v : Kinds) → AllFit v → NoDot v → AllFit (maybe_expr e ++ v)
   maybe_expr_fits Tree.NoExpr v f h = f
@@ -392,24 +396,41 @@ mutual
   other_elements_fit : (e : MaybeExpr) (es : Elements) (v : Kinds) → AllFit v → NoDot v → AllFit (other_elements e es ++ v)
   other_elements_fit Tree.NoExpr Tree.NoElements v f h = (refl, f)
   other_elements_fit (Tree.AnExpr x) Tree.NoElements v f h = f
-  other_elements_fit Tree.NoExpr (Tree.MoreElements next es) v f h =
-      (refl, joined_fits (element next) (other_elements next es) v
-      (element_fits next (other_elements next es ++ v) (other_elements_fit next es v f h) (elements_no_dot next es v h)))
-  other_elements_fit (Tree.AnExpr x) (Tree.MoreElements next es) v f h =
-      (refl, joined_fits (element next) (other_elements next es) v
-      (element_fits next (other_elements next es ++ v) (other_elements_fit next es v f h) (elements_no_dot next es v h)))
+  other_elements_fit Tree.NoExpr (Tree.MoreElements next es) v f h = (
+    refl,
+    joined_fits (element next) (other_elements next es) v
+        (element_fits next (other_elements next es ++ v) (other_elements_fit next es v f h) (elements_no_dot next es v h)),
+  )
+  other_elements_fit (Tree.AnExpr x) (Tree.MoreElements next es) v f h = (
+    refl,
+    joined_fits (element next) (other_elements next es) v
+        (element_fits next (other_elements next es ++ v) (other_elements_fit next es v f h) (elements_no_dot next es v h)),
+  )
 
   pairs_fit : (ps : Pairs) (v : Kinds) → AllFit v → NoDot v → AllFit (pairs ps ++ v)
   pairs_fit Tree.NoPairs v f h = f
-  pairs_fit (Tree.MorePairs key value ps) v f h =
-      (key_fits key (k.Mark m.Colon ∷ ((operand true 2 value (expr value) ++ other_pairs ps) ++ v)), (refl, joined_fits (operand true 2 value (expr value)) (other_pairs ps) v
-      (operand_good false true 2 value (written value) (other_pairs ps ++ v) (other_pairs_fit ps v f h) (λ o. pairs_no_dot ps v h)).all))
+  pairs_fit (Tree.MorePairs key value ps) v f h = (
+    key_fits key (k.Mark m.Colon ∷ ((operand true 2 value (expr value) ++ other_pairs ps) ++ v)),
+    (
+      refl,
+      joined_fits (operand true 2 value (expr value)) (other_pairs ps) v
+          (operand_good false true 2 value (written value) (other_pairs ps ++ v) (other_pairs_fit ps v f h) (λ o. pairs_no_dot ps v h)).all,
+    ),
+  )
 
   other_pairs_fit : (ps : Pairs) (v : Kinds) → AllFit v → NoDot v → AllFit (other_pairs ps ++ v)
   other_pairs_fit Tree.NoPairs v f h = f
-  other_pairs_fit (Tree.MorePairs key value ps) v f h =
-      (refl, (key_fits key (k.Mark m.Colon ∷ ((operand true 2 value (expr value) ++ other_pairs ps) ++ v)), (refl, joined_fits (operand true 2 value (expr value)) (other_pairs ps) v
-      (operand_good false true 2 value (written value) (other_pairs ps ++ v) (other_pairs_fit ps v f h) (λ o. pairs_no_dot ps v h)).all)))
+  other_pairs_fit (Tree.MorePairs key value ps) v f h = (
+    refl,
+    (
+      key_fits key (k.Mark m.Colon ∷ ((operand true 2 value (expr value) ++ other_pairs ps) ++ v)),
+      (
+        refl,
+        joined_fits (operand true 2 value (expr value)) (other_pairs ps) v
+            (operand_good false true 2 value (written value) (other_pairs ps ++ v) (other_pairs_fit ps v f h) (λ o. pairs_no_dot ps v h)).all,
+      ),
+    ),
+  )
 
   func_fits : (f : Func) (v : Kinds) → AllFit v → AllFit (func f ++ v)
   func_fits (Tree.Code number name formals body role) v f =
@@ -425,13 +446,17 @@ mutual
       (refl, joined_fits (var_items items true) (k.Mark m.Semicolon ∷ []) v (var_items_fit items true (k.Mark m.Semicolon ∷ v) (refl, f) refl))
   stmt_fits Tree.Empty v f = (refl, f)
   stmt_fits (Tree.Do x) v f = statement_fits x (begins_as_another (expr x true)) (written x) v f
-  stmt_fits (Tree.If test body other) v f =
-      (refl, joined_fits (enclosed (expr test true)) (stmt body ++ else_part other) v
-      (header_fits test (written test) ((stmt body ++ else_part other) ++ v) (joined_fits (stmt body) (else_part other) v (stmt_fits body (else_part other ++ v) (else_fits other v f)))))
+  stmt_fits (Tree.If test body other) v f = (
+    refl,
+    joined_fits (enclosed (expr test true)) (stmt body ++ else_part other) v
+        (header_fits test (written test) ((stmt body ++ else_part other) ++ v) (joined_fits (stmt body) (else_part other) v (stmt_fits body (else_part other ++ v) (else_fits other v f)))),
+  )
   stmt_fits (Tree.DoWhile body test) v f =
-      let behind = k.Word w.While ∷ (enclosed (expr test true) ++ (k.Mark m.Semicolon ∷ [])) in
-      (refl, joined_fits (stmt body) behind v (stmt_fits body (behind ++ v)
-      (refl, joined_fits (enclosed (expr test true)) (k.Mark m.Semicolon ∷ []) v (header_fits test (written test) (k.Mark m.Semicolon ∷ v) (refl, f)))))
+      let behind = k.Word w.While ∷ (enclosed (expr test true) ++ (k.Mark m.Semicolon ∷ [])) in (
+        refl,
+        joined_fits (stmt body) behind v (stmt_fits body (behind ++ v)
+            (refl, joined_fits (enclosed (expr test true)) (k.Mark m.Semicolon ∷ []) v (header_fits test (written test) (k.Mark m.Semicolon ∷ v) (refl, f)))),
+      )
   stmt_fits (Tree.While test body) v f = (refl, joined_fits (enclosed (expr test true)) (stmt body) v (header_fits test (written test) (stmt body ++ v) (stmt_fits body v f)))
   stmt_fits (Tree.For first test next body) v f =
       let last = k.Mark m.Semicolon ∷ maybe_expr next in
@@ -453,14 +478,18 @@ mutual
   stmt_fits (Tree.Break label) v f = (refl, joined_fits (maybe_name label) (k.Mark m.Semicolon ∷ []) v (maybe_name_fits label (k.Mark m.Semicolon ∷ v) (refl, f)))
   stmt_fits (Tree.Return value) v f = (refl, joined_fits (maybe_expr value) (k.Mark m.Semicolon ∷ []) v (maybe_expr_fits value (k.Mark m.Semicolon ∷ v) (refl, f) refl))
   stmt_fits (Tree.Switch value cs) v f =
-      let behind = k.Mark m.OpenBrace ∷ (cases cs ++ (k.Mark m.CloseBrace ∷ [])) in
-      (refl, joined_fits (enclosed (expr value true)) behind v (header_fits value (written value) (behind ++ v)
-      (refl, joined_fits (cases cs) (k.Mark m.CloseBrace ∷ []) v (cases_fit cs (k.Mark m.CloseBrace ∷ v) (refl, f)))))
+      let behind = k.Mark m.OpenBrace ∷ (cases cs ++ (k.Mark m.CloseBrace ∷ [])) in (
+        refl,
+        joined_fits (enclosed (expr value true)) behind v (header_fits value (written value) (behind ++ v)
+            (refl, joined_fits (cases cs) (k.Mark m.CloseBrace ∷ []) v (cases_fit cs (k.Mark m.CloseBrace ∷ v) (refl, f)))),
+      )
   stmt_fits (Tree.Label name body) v f = (refl, (refl, stmt_fits body v f))
   stmt_fits (Tree.Throw x) v f = (refl, joined_fits (expr x true) (k.Mark m.Semicolon ∷ []) v (written x true (k.Mark m.Semicolon ∷ v) (refl, f) (λ o. refl)).all)
-  stmt_fits (Tree.Try block caught last) v f =
-      (refl, joined_fits (stmt block) (handler caught ++ finally_part last) v (stmt_fits block ((handler caught ++ finally_part last) ++ v)
-      (joined_fits (handler caught) (finally_part last) v (handler_fits caught (finally_part last ++ v) (finally_fits last v f)))))
+  stmt_fits (Tree.Try block caught last) v f = (
+    refl,
+    joined_fits (stmt block) (handler caught ++ finally_part last) v (stmt_fits block ((handler caught ++ finally_part last) ++ v)
+        (joined_fits (handler caught) (finally_part last) v (handler_fits caught (finally_part last ++ v) (finally_fits last v f)))),
+  )
   stmt_fits (Tree.Declare f) v g = func_fits f v g
   stmt_fits (Tree.Used n) v f = (refl, (refl, (refl, (refl, (refl, f)))))
 
@@ -496,15 +525,22 @@ mutual
 
   var_items_fit : (items : VarItems) (i : Bool) (v : Kinds) → AllFit v → NoDot v → AllFit (var_items items i ++ v)
   var_items_fit Tree.NoVarItems i v f h = f
-  var_items_fit (Tree.MoreVarItems name value rest) i v f h =
-      (refl, joined_fits (initialiser value i) (other_var_items rest i) v
-      (initialiser_fits value i (other_var_items rest i ++ v) (other_var_items_fit rest i v f h) (items_no_dot rest i v h)))
+  var_items_fit (Tree.MoreVarItems name value rest) i v f h = (
+    refl,
+    joined_fits (initialiser value i) (other_var_items rest i) v
+        (initialiser_fits value i (other_var_items rest i ++ v) (other_var_items_fit rest i v f h) (items_no_dot rest i v h)),
+  )
 
   other_var_items_fit : (items : VarItems) (i : Bool) (v : Kinds) → AllFit v → NoDot v → AllFit (other_var_items items i ++ v)
   other_var_items_fit Tree.NoVarItems i v f h = f
-  other_var_items_fit (Tree.MoreVarItems name value rest) i v f h =
-      (refl, (refl, joined_fits (initialiser value i) (other_var_items rest i) v
-      (initialiser_fits value i (other_var_items rest i ++ v) (other_var_items_fit rest i v f h) (items_no_dot rest i v h))))
+  other_var_items_fit (Tree.MoreVarItems name value rest) i v f h = (
+    refl,
+    (
+      refl,
+      joined_fits (initialiser value i) (other_var_items rest i) v
+          (initialiser_fits value i (other_var_items rest i ++ v) (other_var_items_fit rest i v f h) (items_no_dot rest i v h)),
+    ),
+  )
 
   cases_fit : (cs : Cases) (v : Kinds) → AllFit v → AllFit (cases cs ++ v)
   cases_fit Tree.NoCases v f = f

@@ -1,18 +1,16 @@
 -- The laws of the printed text of scripts.
-use Rattle.std.proofs.Common.{◌≡◌, ℕ, ◌*◌, ◌≤◌, true, false, List, [], ◌∷◌, ◌++◌, Result, refl, ap, sym, ◌∙◌, subst}
-use Rattle.std.specs.Str.{IsUtf8, chars}
+use Rattle.std.proofs.Common.{◌≡◌, ℕ, ◌*◌, ◌≤◌, true, List, refl, ap, sym, ◌∙◌, subst}
+use Rattle.std.specs.Str.{chars}
 use Rattle.std.proofs.lemmas.Str.{scalars-chars, chars-encodes}
-use Rattle.js_lexer.specs.Tokens.{IsTokens, IsErrorOf}
-use Rattle.js_lexer.specs.declared.token.LexError.{LexError}
+use Rattle.js_lexer.specs.Tokens.{IsTokens}
 use Rattle.js_lexer.specs.declared.token.LexError.TheVariants.{Lexical, OutOfMemory}
 use Rattle.js_lexer.specs.declared.token.Token.{Token}
 use Rattle.js_lexer.proofs.OneCut.{no_text_has_both, one_list_of_tokens}
 use Rattle.js_tree.specs.Depth.{depth}
 use Rattle.js_tree.specs.Tree.{Script}
 use Rattle.js_parser.specs.declared.form.Form.{Form}
-use Rattle.js_parser.specs.declared.form.Limits.{Limits}
-use Rattle.js_parser.specs.Symbols.{Symbols, symbols, end}
-use Rattle.js_parser.specs.Accepted.{Accepted, Derives, functions_in, most_open}
+use Rattle.js_parser.specs.Symbols.{Symbols, symbols}
+use Rattle.js_parser.specs.Accepted.{Derives, functions_in, most_open}
 use Rattle.js_parser.proofs.Counts.{functions_counted}
 use Rattle.js_parser.proofs.OneTree.{one_tree}
 use Rattle.js_parser.proofs.Parsed.{exactly}

@@ -15,7 +15,7 @@ use Rattle.js_tree.specs.Tree
 use Rattle.js_parser.specs.declared.form.Form.{Form}
 use Rattle.js_parser.specs.Symbols.{Symbol, Symbols, word, mark, name, first, end}
 use Rattle.js_tree.specs.Levels.{Operator, LogicalOr, LogicalAnd, Operation, joined, level, operation_level, is_in_operation, changes}
-use Rattle.js_parser.specs.Operators.{sign, may_operate, assignment, prefix_sign, postfix_sign}
+use Rattle.js_parser.specs.Operators.{sign, may_operate, assignment, prefix_sign}
 use Rattle.js_parser.specs.Contexts.{Context}
 use Rattle.js_parser.specs.Ends.{written, semicolon}
 use Rattle.js_parser.specs.Grammar.{Formals, Expression, NewCallee, Arguments, ArgumentList, ElementList, PropertyList, FunctionRest, Declarator, DeclaratorList, OptionalExpression, ForFirst, Block, Statement, StatementList, CaseClauses, SourceElement, SourceElements}

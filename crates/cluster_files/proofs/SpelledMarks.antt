@@ -1,5 +1,5 @@
 -- A mark that stands in a text is read as itself, where nothing behind it makes a longer one.
-use Rattle.std.proofs.Common.{◌≡◌, ℕ, suc, ◌<◌, ◌==◌, Bool, true, false, not, ◌&&◌, ◌||◌, List, [], ◌∷◌, ◌++◌, length, Option, Some, None, refl, ap, sym, ◌∙◌, subst, arith, lit<}
+use Rattle.std.proofs.Common.{◌≡◌, ℕ, ◌==◌, Bool, true, false, not, ◌||◌, List, [], ◌∷◌, ◌++◌, length, Some, refl, ap, subst, arith, lit<}
 use Rattle.std.proofs.lemmas.Bool.Decides.{nat_tests}
 use Rattle.std.proofs.Math.Utf8.{scalars}
 use Rattle.js_lexer.specs.Characters.{begins_name, first_is, is_digit}
@@ -8,7 +8,6 @@ use Rattle.js_lexer.specs.Fronts as f
 use Rattle.js_lexer.specs.Marks.{spelling, front_mark}
 use Rattle.js_lexer.specs.declared.mark.Mark.{Mark}
 use Rattle.js_lexer.specs.declared.mark.Mark.TheVariants as m
-use Rattle.js_lexer.specs.declared.front.Front.{Front}
 use Rattle.js_lexer.specs.declared.front.Front.TheVariants.{Next}
 use Rattle.js_lexer.specs.declared.token.TokenKind.TheVariants as t
 use Rattle.js_lexer.proofs.Longest.{plain}

@@ -1,26 +1,23 @@
 -- A number in decimal that stands in a text is read as itself, where nothing stands behind it that may not.
-use Rattle.std.proofs.Common.{◌≡◌, ℕ, zero, suc, ◌+◌, ◌*◌, ◌^◌, ◌≤◌, ◌<◌, ◌==◌, nat_lt, nat_le, Bool, true, false, not, ◌&&◌, ◌||◌, List, [], ◌∷◌, ◌++◌, length, take, drop, get_or, Option, Some, None, cond, refl, ap, sym, ◌∙◌, subst, arith, rules, lit<}
+use Rattle.std.proofs.Common.{◌≡◌, ℕ, zero, suc, ◌+◌, ◌*◌, ◌^◌, ◌<◌, ◌==◌, Bool, true, false, ◌||◌, List, [], ◌∷◌, ◌++◌, length, take, drop, get_or, Some, None, cond, refl, ap, sym, ◌∙◌, subst, arith, rules, lit<}
 use Rattle.std.specs.Prelude.{fold}
 use Rattle.std.specs.List.{list_all}
 use Rattle.std.specs.Char.{digit_value, is_ascii_alphabetic}
 use Rattle.std.specs.Fmt.{decimal}
 use Rattle.std.proofs.Math.Seq.{take-append_seam, drop-append_seam}
-use Rattle.std.proofs.Math.Utf8.{scalars}
-use Rattle.std.proofs.lemmas.Bool.{leb-true, lt-ltb}
+use Rattle.std.proofs.lemmas.Bool.{lt-ltb}
 use Rattle.std.proofs.lemmas.Bool.Decides.{nat_tests}
 use Rattle.std.proofs.lemmas.Fmt.{digits_decimal, digits_value-decimal, decimal_nonempty, first_decimal, decimal_digit}
 use Rattle.std.proofs.lemmas.Str.Parse.{IsNumeralModel, numerals_by_fold}
 use Rattle.unicode_ident.proofs.IdentLemmas.{is_xid_start-ascii}
-use Rattle.js_lexer.specs.Characters.{begins_name, continues_name, is_digit, first_is, run, number_of}
+use Rattle.js_lexer.specs.Characters.{begins_name, is_digit, first_is, number_of}
 use Rattle.js_lexer.specs.Fronts.{StandsAt, front_by, after_number, is_hex_number, decimal_length, decimal_number, tested_number}
 use Rattle.js_lexer.specs.Fronts as f
-use Rattle.js_lexer.specs.declared.front.Front.{Front}
 use Rattle.js_lexer.specs.declared.front.Front.TheVariants.{Next}
-use Rattle.js_lexer.specs.declared.token.LexKind.{LexKind}
 use Rattle.js_lexer.specs.declared.token.LexKind.TheVariants as k
 use Rattle.js_lexer.specs.declared.token.TokenKind.TheVariants as t
-use Rattle.js_lexer.proofs.Longest.{digit_front, digit_quote, not_hex, plain}
-use Rattle.js_lexer.proofs.PieceLaws.{left, right}
+use Rattle.js_lexer.proofs.Longest.{digit_front, digit_quote, not_hex}
+use Rattle.js_lexer.proofs.PieceLaws.{left}
 use Rattle.cluster_files.proofs.SpelledNames.{run_exact}
 
 with_digits : ℕ → List ℕ → ℕ

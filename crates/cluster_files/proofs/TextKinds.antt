@@ -1,25 +1,22 @@
 -- The kinds of a text's tokens may be written.
-use Rattle.std.proofs.Common.{◌≡◌, ℕ, zero, suc, ◌+◌, ◌*◌, ◌^◌, ◌≤◌, ◌<◌, ◌==◌, ◌||◌, ◌&&◌, nat_lt, nat_le, not, Bool, true, false, List, [], ◌∷◌, ◌++◌, length, take, drop, Option, Some, None, cond, refl, ap, sym, ◌∙◌, subst, arith}
+use Rattle.std.proofs.Common.{◌≡◌, ℕ, zero, suc, ◌+◌, ◌*◌, ◌≤◌, ◌<◌, ◌==◌, ◌||◌, ◌&&◌, not, Bool, true, false, List, [], ◌∷◌, ◌++◌, take, drop, Option, Some, None, cond, refl, ap, sym, subst, arith}
 use Rattle.std.specs.List.{list_all}
 use Rattle.std.specs.Char.{digit_value}
-use Rattle.std.specs.Char.Escape.{encode_utf16}
 use Rattle.std.proofs.Math.Utf8.{scalar, scalars}
-use Rattle.std.proofs.lemmas.Bool.{ltb-true}
 use Rattle.std.proofs.lemmas.Bool.Decides.{nat_tests}
 use Rattle.dl_text.specs.Place.{is_line_terminator}
 use Rattle.dl_text.specs.Utf16.{utf16}
 use Rattle.js_lexer.specs.Characters.{begins_name, continues_name, is_digit, is_hex_digit, first_is}
-use Rattle.js_lexer.specs.Fronts.{IsInside, none, more, string_part, escape, escape_by, escaped, two_digits, four_digits, name_kind, word_or_name}
+use Rattle.js_lexer.specs.Fronts.{IsInside, none, more, string_part, escape, escape_by, escaped, two_digits, four_digits, word_or_name}
 use Rattle.js_lexer.specs.Pieces as p
 use Rattle.js_lexer.specs.Pieces.{IsPiece, IsAllowed}
 use Rattle.js_lexer.specs.Tokens.{Piece, Cut, done, piece, IsTokens, body, has_byte_order_mark, body_start, tokens_of, tokens_behind, gap_after}
 use Rattle.js_lexer.specs.Words.{word_of}
 use Rattle.js_lexer.specs.declared.token.Token.{Token}
 use Rattle.js_lexer.specs.declared.token.TokenKind.{TokenKind}
-use Rattle.js_lexer.specs.declared.token.TokenKind.TheVariants as k
 use Rattle.js_lexer.specs.declared.word.Word.{Word}
 use Rattle.js_lexer.proofs.PieceLaws.{left, right}
-use Rattle.js_parser.specs.Symbols.{Symbol, Symbols, symbols}
+use Rattle.js_parser.specs.Symbols.{symbols}
 use Rattle.cluster_files.specs.WritableKinds.{are_units, IsRead, AreRead}
 use Rattle.cluster_files.proofs.Scalars.{is_character, bounded, units_below, characters_units}
 use Rattle.cluster_files.proofs.SpelledNames.{name_read}

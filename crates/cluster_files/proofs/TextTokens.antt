@@ -1,18 +1,17 @@
 -- The tokens of the text of kinds: just these kinds, each on the line, and the end on the next one.
-use Rattle.std.proofs.Common.{◌≡◌, ℕ, suc, ◌+◌, ◌-◌, ◌/◌, ◌%◌, ◌^◌, ◌≤◌, ◌<◌, ◌==◌, ◌||◌, ◌&&◌, nat_lt, nat_le, not, Bool, true, false, List, [], ◌∷◌, ◌++◌, length, drop, map, Option, Some, None, cond, refl, ap, sym, ◌∙◌, subst, arith, lit<, length-append, append_assoc}
+use Rattle.std.proofs.Common.{◌≡◌, ℕ, suc, ◌+◌, ◌-◌, ◌/◌, ◌%◌, ◌<◌, ◌==◌, ◌||◌, ◌&&◌, nat_lt, nat_le, Bool, true, false, List, [], ◌∷◌, ◌++◌, length, drop, cond, refl, ap, sym, ◌∙◌, arith, length-append, append_assoc}
 use Rattle.std.specs.List.{list_all, list_any, flat_map}
 use Rattle.std.specs.Char.{digit_char}
 use Rattle.std.specs.Fmt.{decimal}
-use Rattle.std.specs.Str.{IsUtf8, chars}
-use Rattle.std.proofs.Math.Utf8.{scalar, scalars, encode, encodes}
+use Rattle.std.proofs.Math.Utf8.{scalar, scalars, encodes}
 use Rattle.std.proofs.lemmas.Bool.{leb-true, lt-ltb, eqb-true, ltb-true}
 use Rattle.std.proofs.lemmas.Bool.Decides.{nat_tests}
-use Rattle.std.proofs.lemmas.Str.{encode_ascii, encodes-append, chars-encodes}
+use Rattle.std.proofs.lemmas.Str.{encode_ascii, encodes-append}
 use Rattle.unicode_ident.proofs.Computing.{unicode_ident}
 use Rattle.dl_text.specs.Place.{is_line_terminator}
-use Rattle.dl_text.specs.Quote.{quoted, quoted_unit, numbered_unit}
-use Rattle.js_lexer.specs.Characters.{begins_name, continues_name, is_digit, first_is}
-use Rattle.js_lexer.specs.Tokens.{Piece, IsTokens, has_byte_order_mark, body, body_start, token, tokens_behind}
+use Rattle.dl_text.specs.Quote.{quoted_unit, numbered_unit}
+use Rattle.js_lexer.specs.Characters.{continues_name, is_digit}
+use Rattle.js_lexer.specs.Tokens.{IsTokens, has_byte_order_mark, body, body_start, token, tokens_behind}
 use Rattle.js_lexer.specs.Marks as marks
 use Rattle.js_lexer.specs.declared.mark.Mark.{Mark}
 use Rattle.js_lexer.specs.declared.mark.Mark.TheVariants as m
@@ -20,12 +19,12 @@ use Rattle.js_lexer.specs.declared.token.Token.{Token}
 use Rattle.js_lexer.specs.declared.token.TokenKind.{TokenKind}
 use Rattle.js_lexer.specs.declared.token.TokenKind.TheVariants as k
 use Rattle.js_lexer.proofs.PieceLaws.{left, right}
-use Rattle.js_parser.specs.Symbols.{Symbol, Symbols, symbol, symbols, is_in_decimal, end}
+use Rattle.js_parser.specs.Symbols.{symbol, symbols, is_in_decimal, end}
 use Rattle.js_printer.specs.Printed.{Kinds}
 use Rattle.js_printer.specs.PrintedText.{spelled, needs_space, space, gap, text}
 use Rattle.cluster_files.specs.ReadsBack.{on_line, line_of}
 use Rattle.cluster_files.specs.WritableKinds.{are_units, IsWritable, AreWritable}
-use Rattle.cluster_files.proofs.SpelledNames.{name_text, word_scalars, word_continues, word_some}
+use Rattle.cluster_files.proofs.SpelledNames.{name_text, word_scalars}
 use Rattle.cluster_files.proofs.SpelledNumbers.{decimal_digits}
 use Rattle.cluster_files.proofs.SpelledMarks.{mark_scalars}
 use Rattle.cluster_files.proofs.Neighbours.{AllFit, IsRun, word_run, name_run, number_run}
@@ -56,9 +55,12 @@ hex_low d h = at (nat_lt d 10)
 
 numbered_scalars : (u : ℕ) → u < 0x1_0000 → scalars (numbered_unit u) ≡ true
 numbered_scalars u h =
-    rw
-    (low_scalar (digit_char (u / 4096)) (hex_low (u / 4096) (omega arith)), low_scalar (digit_char (u / 256 % 16)) (hex_low (u / 256 % 16) (omega arith)),
-    low_scalar (digit_char (u / 16 % 16)) (hex_low (u / 16 % 16) (omega arith)), low_scalar (digit_char (u % 16)) (hex_low (u % 16) (omega arith)))
+    rw (
+      low_scalar (digit_char (u / 4096)) (hex_low (u / 4096) (omega arith)),
+      low_scalar (digit_char (u / 256 % 16)) (hex_low (u / 256 % 16) (omega arith)),
+      low_scalar (digit_char (u / 16 % 16)) (hex_low (u / 16 % 16) (omega arith)),
+      low_scalar (digit_char (u % 16)) (hex_low (u % 16) (omega arith)),
+    )
     refl
 
 unit_scalars : (u : ℕ) → u < 0x1_0000 → scalars (quoted_unit u) ≡ true
