@@ -1,5 +1,5 @@
 -- How deep a script is, and how many functions stand in one another in it.
-use Rattle.std.specs.Prelude.{ℕ, suc}
+use Rattle.std.specs.Prelude.{ℕ, suc, min}
 use Rattle.js_tree.specs.Tree.{Script}
 use Rattle.js_tree.specs.Heights.{Growth, stmts_height}
 
@@ -16,6 +16,10 @@ by_functions = record { node = as_before; function = suc }
 -- as deep as its deepest node, and 0 where it has none.
 abbrev pub depth : Script → ℕ
 depth = stmts_height by_nodes
+
+-- what a `u32` tells of a depth: the greatest one, where the depth is greater
+abbrev pub told : ℕ → ℕ
+told n = min n 4294967295
 
 -- how many functions stand in one another at most
 abbrev pub nesting : Script → ℕ

@@ -1,5 +1,6 @@
 pub mod Tree
 pub mod Plain
+pub mod Parts
 pub mod Numbering
 pub mod TreeRows
 pub mod PlainRows

@@ -6,11 +6,15 @@
 #![tactic(auto)]
 
 mod copy;
+mod depths;
+mod equality;
 mod rows;
 #[cfg(test)]
 mod tests;
 mod tree;
 
+pub use depths::depth;
+pub use equality::same;
 pub use rows::{functions_in_trees, numbered_scripts, plain_nodes};
 pub use tree::{
     BinaryOp, Case, Cases, Elements, Expr, Exprs, ForInit, ForTarget, Func, LAST_FUNCTION_NUMBER,
