@@ -1,6 +1,6 @@
 use crate::{
     Case, Cases, Elements, Expr, Exprs, ForInit, Func, Pair, Pairs, Role, Script, Scripts, Stmt,
-    Stmts, VarItem, VarItems,
+    Stmts, VarItem, VarItems, depth, same,
 };
 use dl_text::{Listed, Names, TryCopy, units_of};
 use sqlite_items::Boxed;
@@ -176,5 +176,18 @@ fn a_copy_of_a_script_has_its_parts(rt: HostRuntime) -> Result<(), Fail> {
         .items();
     assert_eq!(rt; cases.len(), 1);
     assert!(rt; cases[0].test.is_none());
+    Ok(())
+}
+
+#[test]
+fn a_script_has_a_depth_and_is_the_same_as_its_copy(rt: HostRuntime) -> Result<(), Fail> {
+    let alloc = rt.alloc();
+    let whole = script(alloc)?;
+    // the argument of the call in the function, the number in the array, and the value of `switch`
+    assert_eq!(rt; depth(&whole), 4);
+    let mut copy = whole.copy(alloc)?;
+    assert!(rt; same(&whole, &copy));
+    copy.body.push(Stmt::Empty)?;
+    assert!(rt; !same(&whole, &copy));
     Ok(())
 }
