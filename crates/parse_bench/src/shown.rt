@@ -1,6 +1,6 @@
 //! Trees as texts, for the tests. A node is its word and its parts in parentheses, in the order of
-//! the text: `(+ a 1)`, `(while a (empty))`. A name, a number or another leaf stands as in a script;
-//! what may be missing and is, as a hole of an array, is `_`.
+//! the text: `(+ a 1)`, `(while a (empty))`. A name, a number or another leaf stands as in a
+//! script; what may be missing and is, as a hole of an array, is `_`.
 
 use dl_text::{Listed, Names, Units, quote_units};
 use js_tree::{
