@@ -706,8 +706,6 @@ fn functions_are_as_many_as_allowed(rt: HostRuntime) -> Result<(), Fail> {
     let texts = [
         (Form::Source, 65_535, "accepted"),
         (Form::Source, 65_536, "TooMany 1:917491"),
-        (Form::Written, 196_605, "accepted"),
-        (Form::Written, 196_606, "TooMany 1:2752471"),
     ];
     for (form, functions, expected) in texts {
         let text = repeated(alloc, "", "function f(){}", functions, "")?;
