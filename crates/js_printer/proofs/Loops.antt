@@ -50,13 +50,13 @@ behind_hole : (es : plain.Elements) → printed.other_elements plain.NoExpr es �
 behind_hole plain.NoElements = refl
 behind_hole (plain.MoreElements next es) = refl
 
-pub element_step : (b : Bool) (x : Expr) (es : List (Option Expr)) → parts.elements_left b (parts.plain_elements (Some x ∷ es)) ≡ comma b ++ (parts.operand true 2 x ++ parts.elements_left true (parts.plain_elements es))
+element_step : (b : Bool) (x : Expr) (es : List (Option Expr)) → parts.elements_left b (parts.plain_elements (Some x ∷ es)) ≡ comma b ++ (parts.operand true 2 x ++ parts.elements_left true (parts.plain_elements es))
 element_step true x es =
     ap (λ t. k.Mark m.Comma ∷ (parts.operand true 2 x ++ t)) (behind_some (view.expr x) (parts.plain_elements es))
 element_step false x es =
     ap (λ t. parts.operand true 2 x ++ t) (behind_some (view.expr x) (parts.plain_elements es))
 
-pub hole_step : (b : Bool) (es : List (Option Expr)) → parts.elements_left b (parts.plain_elements (None ∷ es)) ≡ comma b ++ ((k.Mark m.Comma ∷ []) ++ parts.elements_left false (parts.plain_elements es))
+hole_step : (b : Bool) (es : List (Option Expr)) → parts.elements_left b (parts.plain_elements (None ∷ es)) ≡ comma b ++ ((k.Mark m.Comma ∷ []) ++ parts.elements_left false (parts.plain_elements es))
 hole_step true es = ap (λ t. k.Mark m.Comma ∷ t) (behind_hole (parts.plain_elements es))
 hole_step false es = behind_hole (parts.plain_elements es)
 
@@ -79,3 +79,15 @@ names_step false n ns = names_first n ns
 pub cases_step : (x : Case) (cs : List Case) → parts.cases (x ∷ cs) ≡ parts.case x ++ parts.cases cs
 cases_step x cs =
     sym (append_assoc (printed.case_head (parts.plain_case x).test) (k.Mark m.Colon ∷ printed.stmts (parts.plain_case x).body) (parts.cases cs))
+
+pub hole_left : (b n : Bool) (x : Option Expr) (es : List (Option Expr)) → x ≡ None → n ≡ false
+    → parts.elements_left b (parts.plain_elements (x ∷ es)) ≡ comma b ++ ((k.Mark m.Comma ∷ []) ++ parts.elements_left n (parts.plain_elements es))
+hole_left b n x es h l =
+    ap (λ o. parts.elements_left b (parts.plain_elements (o ∷ es))) h ∙ hole_step b es
+    ∙ ap (λ next. comma b ++ ((k.Mark m.Comma ∷ []) ++ parts.elements_left next (parts.plain_elements es))) (sym l)
+
+pub element_left : (b n : Bool) (x : Option Expr) (y : Expr) (es : List (Option Expr)) → x ≡ Some y → n ≡ true
+    → parts.elements_left b (parts.plain_elements (x ∷ es)) ≡ comma b ++ (parts.operand true 2 y ++ parts.elements_left n (parts.plain_elements es))
+element_left b n x y es h l =
+    ap (λ o. parts.elements_left b (parts.plain_elements (o ∷ es))) h ∙ element_step b y es
+    ∙ ap (λ next. comma b ++ (parts.operand true 2 y ++ parts.elements_left next (parts.plain_elements es))) (sym l)

@@ -7,15 +7,17 @@ use Rattle.js_lexer.specs.declared.token.TokenKind.TheVariants as k
 use Rattle.js_lexer.specs.declared.word.Word.TheVariants as w
 use Rattle.js_tree.specs.declared.tree.Case.{Case}
 use Rattle.js_tree.specs.declared.tree.Expr.{Expr}
+use Rattle.js_tree.specs.declared.tree.Func.{Func}
 use Rattle.js_tree.specs.declared.tree.ForInit.{ForInit}
 use Rattle.js_tree.specs.declared.tree.ForTarget.{ForTarget}
 use Rattle.js_tree.specs.declared.tree.Stmt.{Stmt}
 use Rattle.js_tree.specs.declared.tree.Stmt.TheVariants as s
 use Rattle.js_tree.specs.declared.tree.Stmt.TheVariants.{rolls-If, rolls-DoWhile, rolls-While, rolls-For, rolls-ForIn, rolls-Switch, rolls-Try}
-use Rattle.js_tree.specs.declared.tree.Expr.TheFolds.{fold-roll-Stmt}
+use Rattle.js_tree.specs.declared.tree.Expr.TheFolds.{fold-roll-Stmt, fold_out-Case, fold_out-Func}
 use Rattle.js_tree.specs.Tree as plain
 use Rattle.js_tree.specs.Tree.{Name}
 use Rattle.js_tree.specs.Plain as view
+use Rattle.js_tree.specs.Plain.{CasePart}
 use Rattle.js_printer.specs.Printed as printed
 use Rattle.js_printer.specs.Printed.{Kinds, enclosed}
 use Rattle.js_printer.specs.Parts as parts
@@ -119,3 +121,18 @@ try_kinds block caught last =
     ap printed.stmt (try_view block caught last)
     ∙ ap (λ t. k.Word w.Try ∷ (parts.stmt block ++ (t ++ printed.finally_part (view.maybe_stmt (option_map view.stmt last))))) (handler_kinds caught)
     ∙ ap (λ t. k.Word w.Try ∷ (parts.stmt block ++ (parts.handler caught ++ t))) (finally_kinds last)
+
+-- ---- clauses and functions
+
+case_view : (x : Case) → parts.plain_case x ≡ record { test = view.maybe_expr (option_map view.expr x.test); body = view.body x.body }
+case_view x = search (rules, fold_out-Case)
+
+pub case_kinds : (x : Case) → parts.case x ≡ parts.case_head x.test ++ (k.Mark m.Colon ∷ parts.stmts x.body)
+case_kinds x = ap (λ (c : CasePart). printed.case_head c.test ++ (k.Mark m.Colon ∷ printed.stmts c.body)) (case_view x)
+
+func_view : (f : Func) → view.func f ≡ plain.Code f.number f.name f.formals (view.body f.body) f.role
+func_view f = search (rules, fold_out-Func)
+
+pub func_kinds : (f : Func) → parts.func f
+    ≡ k.Word w.Function ∷ (printed.maybe_name f.name ++ (enclosed (printed.names f.formals) ++ (k.Mark m.OpenBrace ∷ (parts.stmts f.body ++ (k.Mark m.CloseBrace ∷ [])))))
+func_kinds f = ap printed.func (func_view f)

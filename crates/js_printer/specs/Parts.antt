@@ -1,5 +1,6 @@
 -- The tokens of declared trees and of their parts: those of the plain trees.
-use Rattle.std.specs.Prelude.{ℕ, ◌||◌, Bool, true, false, List, [], ◌∷◌, ◌++◌, Option, None, Some, map}
+use Rattle.std.specs.Prelude.{ℕ, ◌||◌, Bool, true, false, List, [], ◌∷◌, ◌++◌, map}
+use Rattle.std.specs.Prelude.{Option, None, Some}
 use Rattle.std.specs.Option.{option_map}
 use Rattle.js_lexer.specs.declared.mark.Mark.TheVariants as m
 use Rattle.js_lexer.specs.declared.word.Word.{Word}
@@ -12,10 +13,13 @@ use Rattle.js_tree.specs.declared.tree.Case.{Case}
 use Rattle.js_tree.specs.declared.tree.VarItem.{VarItem}
 use Rattle.js_tree.specs.declared.tree.ForInit.{ForInit}
 use Rattle.js_tree.specs.declared.tree.ForTarget.{ForTarget}
-use Rattle.js_tree.specs.declared.tree.Expr.TheFolds.{fold-Pair, fold-Case, fold-VarItem, fold-ForInit, fold-ForTarget}
+use Rattle.js_tree.specs.declared.tree.Expr.TheFolds.{fold-Pair, fold-Case}
+use Rattle.js_tree.specs.declared.tree.Expr.TheFolds.{fold-VarItem, fold-ForInit, fold-ForTarget}
 use Rattle.js_tree.specs.Tree as plain
 use Rattle.js_tree.specs.Plain as view
-use Rattle.js_tree.specs.Plain.{CasePart, PairPart, VarPart, expr_level, for_init_level, for_target_level, stmt_level, case_level, func_level, pair_level, var_item_level}
+use Rattle.js_tree.specs.Plain.{CasePart, PairPart, VarPart, expr_level, for_init_level}
+use Rattle.js_tree.specs.Plain.{for_target_level, stmt_level, case_level, func_level, pair_level}
+use Rattle.js_tree.specs.Plain.{var_item_level}
 use Rattle.js_printer.specs.Printed as printed
 use Rattle.js_printer.specs.Printed.{Kinds}
 
@@ -126,7 +130,8 @@ elements es = printed.elements (plain_elements es)
 
 abbrev pub pair_part : PairPart → Kinds
 pair_part p =
-    printed.key_kind p.key ∷ (k.Mark m.Colon ∷ printed.operand true 2 p.value (printed.expr p.value))
+    printed.key_kind p.key
+    ∷ (k.Mark m.Colon ∷ printed.operand true 2 p.value (printed.expr p.value))
 
 abbrev pub pair : Pair → Kinds
 pair p = pair_part (plain_pair p)
@@ -176,7 +181,9 @@ abbrev pub case_head : Option Expr → Kinds
 case_head test = printed.case_head (view.maybe_expr (option_map view.expr test))
 
 abbrev pub case : Case → Kinds
-case c = printed.case_head (plain_case c).test ++ (k.Mark m.Colon ∷ printed.stmts (plain_case c).body)
+case c =
+    printed.case_head (plain_case c).test
+    ++ (k.Mark m.Colon ∷ printed.stmts (plain_case c).body)
 
 abbrev pub cases : List Case → Kinds
 cases cs = printed.cases (view.cases (map plain_case cs))

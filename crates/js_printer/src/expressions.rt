@@ -182,8 +182,8 @@ fn write_dot(
     name: &Units,
     with_in: bool,
 ) -> Result<(), AllocError>
-    ensures { OnOk result (printer.new
-        ≡ all_written printer.old (printed.expr (plain.Dot (view.expr object.now) name.now) with_in)) }
+    ensures { OnOk result (printer.new ≡ all_written printer.old
+        (printed.expr (plain.Dot (view.expr object.now) name.now) with_in)) }
 {
     let object = object.get();
     let reason = is_number(object) || is_function(object);
@@ -216,8 +216,8 @@ fn write_callee(printer: &mut Printer, callee: &Expr, with_in: bool) -> Result<(
 /// What `new` is given (ES3 11.2.2).
 #[cycle(print)]
 fn write_constructor(printer: &mut Printer, callee: &Expr, with_in: bool) -> Result<(), AllocError>
-    ensures { OnOk result (printer.new ≡ all_written printer.old
-        (k.Word w.New ∷ parts.operand_for (parts.is_constructor callee.now) with_in 16 callee.now)) }
+    ensures { OnOk result (printer.new ≡ all_written printer.old (k.Word w.New
+        ∷ parts.operand_for (parts.is_constructor callee.now) with_in 16 callee.now)) }
 {
     printer.word(Word::New)?;
     write_operand_for(printer, is_function(callee) || has_call(callee), callee, CALL, with_in)

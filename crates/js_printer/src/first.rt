@@ -51,7 +51,9 @@ pub fn begins_as_another(expr: &Expr) -> bool
 
 /// The same of an operand, which begins with `(` where it is in parentheses.
 #[cycle(first)]
-#[tactic(auto, using(crate::proofs::Beginnings::begins_front, crate::proofs::Beginnings::begins_operand))]
+#[tactic(auto, using(
+    crate::proofs::Beginnings::begins_front, crate::proofs::Beginnings::begins_operand
+))]
 fn begins(reason: bool, operand: &Boxed<Expr>, least: u8) -> bool
     ensures { result
         ≡ printed.begins_as_another (parts.operand_for reason true least operand.now) }

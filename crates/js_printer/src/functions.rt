@@ -6,7 +6,7 @@ ghost use Rattle.js_printer.specs.Written.{all_written};
 
 use crate::statements::write_block;
 use crate::writer::Printer;
-use js_lexer::{Mark, Word};
+use js_lexer::Word;
 use js_tree::Func;
 use std::alloc::AllocError;
 
@@ -18,9 +18,7 @@ pub fn write_func(printer: &mut Printer, func: &Func) -> Result<(), AllocError>
 {
     printer.word(Word::Function)?;
     printer.maybe_name(&func.name)?;
-    printer.mark(Mark::OpenParenthesis)?;
-    printer.names(&func.formals)?;
-    printer.mark(Mark::CloseParenthesis)?;
+    printer.formals(&func.formals)?;
     write_block(printer, &func.body)?;
     Ok(())
 }

@@ -23,10 +23,9 @@ use std::alloc::AllocError;
 /// A statement, or a function declaration (ES3 section 13).
 #[cycle(print)]
 #[tactic(auto, using(
-    crate::proofs::Writing::all_written_append, crate::proofs::StatementViews::if_kinds,
-    crate::proofs::StatementViews::do_kinds, crate::proofs::StatementViews::while_kinds,
-    crate::proofs::StatementViews::for_kinds, crate::proofs::StatementViews::for_in_kinds,
-    crate::proofs::StatementViews::switch_kinds, crate::proofs::StatementViews::try_kinds
+    crate::proofs::Writing::all_written_append, crate::proofs::StatementViews::do_kinds,
+    crate::proofs::StatementViews::while_kinds, crate::proofs::StatementViews::for_in_kinds,
+    crate::proofs::StatementViews::switch_kinds
 ))]
 pub fn write_stmt(printer: &mut Printer, stmt: &Stmt) -> Result<(), AllocError>
     ensures { OnOk result (printer.new ≡ all_written printer.old (parts.stmt stmt.now)) }

@@ -338,7 +338,8 @@ fn branches_and_loops(rt: HostRuntime) -> Result<(), Fail> {
     let alloc = rt.alloc();
     let bare = Stmt::If(Expr::Num(1), empty(alloc)?, None);
     prints(&rt, alloc, bare, "if(1);")?;
-    let both = Stmt::If(Expr::Num(1), empty(alloc)?, Some(Boxed::new(alloc, Stmt::Do(Expr::Null))?));
+    let other = Boxed::new(alloc, Stmt::Do(Expr::Null))?;
+    let both = Stmt::If(Expr::Num(1), empty(alloc)?, Some(other));
     prints(&rt, alloc, both, "if(1);else null;")?;
     prints(&rt, alloc, Stmt::While(membership(alloc)?, empty(alloc)?), "while(a in b);")?;
     let body = Boxed::new(alloc, Stmt::Do(Expr::This))?;

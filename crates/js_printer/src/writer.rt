@@ -1,4 +1,5 @@
-ghost use Rattle.std.specs.Prelude.{◌≡◌, ◌++◌, ◌∷◌, [], codes, encode_utf8_all, OnOk, true, chars, nat_lt};
+ghost use Rattle.std.specs.Prelude.{◌≡◌, ◌++◌, ◌∷◌, [], codes, OnOk, true, nat_lt};
+ghost use Rattle.std.specs.Prelude.{chars, encode_utf8_all};
 ghost use Rattle.std.specs.List.{list_all};
 ghost use Rattle.dl_text.specs.Quote.{quoted};
 ghost use Rattle.js_lexer.specs.declared.mark.Mark.TheVariants as mark;
@@ -185,7 +186,7 @@ impl Printer {
     }
 
     /// Writes names with commas between.
-    pub fn names(&mut self, names: &Names) -> Result<(), AllocError>
+    fn names(&mut self, names: &Names) -> Result<(), AllocError>
         ensures { OnOk result (self.new ≡ all_written self.old (printed.names names.now)) }
     {
         let mut is_behind = false;
@@ -195,6 +196,17 @@ impl Printer {
             is_behind = true;
         }
         Ok(())
+    }
+
+    /// Writes the formals of a function in their parentheses (ES3 section 13).
+    #[tactic(auto, using(crate::proofs::Writing::all_written_append))]
+    pub fn formals(&mut self, names: &Names) -> Result<(), AllocError>
+        ensures { OnOk result
+            (self.new ≡ all_written self.old (printed.enclosed (printed.names names.now))) }
+    {
+        self.mark(Mark::OpenParenthesis)?;
+        self.names(names)?;
+        self.mark(Mark::CloseParenthesis)
     }
 
     /// Writes the comma before an item, where one is before it.
