@@ -1,5 +1,5 @@
 -- The first token of an expression, by its left side.
-use Rattle.std.proofs.Common.{◌≡◌, ℕ, Bool, true, false, not, ◌&&◌, ◌||◌, List, [], ◌∷◌, ◌++◌, refl}
+use Rattle.std.proofs.Common.{◌≡◌, Bool, true, false, not, ◌&&◌, ◌||◌, [], ◌∷◌, ◌++◌, refl}
 use Rattle.js_tree.specs.Tree.{Expr}
 use Rattle.js_tree.specs.Tree
 use Rattle.js_printer.specs.Printed.{Kinds, enclosed_if, begins_as_another, expr}

@@ -1,15 +1,14 @@
 -- The edges of a text by its characters.
-use Rattle.std.proofs.Common.{◌≡◌, ℕ, zero, suc, ◌==◌, Bool, true, false, ◌&&◌, List, [], ◌∷◌, ◌++◌, length, take, subst, slice_get, codes, Option, Some, None, is_none, is_some, not, refl, sym, ap, ◌∙◌, arith, lit≤}
-use Rattle.std.specs.Prelude.{IsUtf8, chars, encode_utf8_all}
+use Rattle.std.proofs.Common.{◌≡◌, ℕ, suc, ◌==◌, Bool, true, false, ◌&&◌, List, [], ◌∷◌, ◌++◌, length, take, subst, slice_get, Option, Some, None, is_none, is_some, not, refl, sym, ap, ◌∙◌, arith}
+use Rattle.std.specs.Prelude.{IsUtf8, chars}
 use Rattle.std.specs.Char.{IsScalar}
 use Rattle.std.proofs.Math.Utf8.{encode}
 use Rattle.std.proofs.lemmas.List.{append-nil}
 use Rattle.std.proofs.Math.Seq.{take-append_seam}
 use Rattle.std.proofs.lemmas.Str.{IsUtf8-encode, IsUtf8-take, IsCharBoundary-at_seam, chars-append, chars_past_char, chars-nil}
 use Rattle.std.proofs.lemmas.Bool.Decides.{nat_tests}
-use Rattle.js_lexer.specs.Characters.{continues_name, begins}
+use Rattle.js_lexer.specs.Characters.{continues_name}
 use Rattle.js_lexer.specs.Words.{is_spelled}
-use Rattle.js_printer.specs.declared.edge.Edge.{Edge}
 use Rattle.js_printer.specs.PrintedText.{last_is}
 use Rattle.js_printer.specs.Edges.{front, back, at_character, nothing}
 

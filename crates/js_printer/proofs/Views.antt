@@ -1,13 +1,11 @@
 -- The tokens of declared trees, by the parts that they are written in.
-use Rattle.std.proofs.Common.{rules, ◌≡◌, ℕ, suc, ◌||◌, Bool, true, false, List, [], ◌∷◌, ◌++◌, Option, Some, None, map, refl, ap, sym, ◌∙◌}
-use Rattle.std.specs.Option.{option_map}
+use Rattle.std.proofs.Common.{rules, ◌≡◌, suc, ◌||◌, Bool, true, List, [], ◌∷◌, ◌++◌, Option, ap, sym, ◌∙◌}
 use Rattle.js_lexer.specs.declared.mark.Mark.TheVariants as m
 use Rattle.js_lexer.specs.declared.token.TokenKind.TheVariants as k
 use Rattle.js_lexer.specs.declared.word.Word.TheVariants as w
 use Rattle.js_tree.specs.declared.tree.BinaryOp.{BinaryOp}
 use Rattle.js_tree.specs.declared.tree.PostfixOp.{PostfixOp}
 use Rattle.js_tree.specs.declared.tree.Expr.{Expr}
-use Rattle.js_tree.specs.declared.tree.Stmt.{Stmt}
 use Rattle.js_tree.specs.declared.tree.Expr.TheVariants as e
 use Rattle.js_tree.specs.declared.tree.Expr.TheVariants.{rolls-Dot, rolls-Index, rolls-Call, rolls-New, rolls-Postfix, rolls-Binary, rolls-And, rolls-Or, rolls-Comma, rolls-Cond, rolls-Assign}
 use Rattle.js_tree.specs.declared.tree.Expr.TheFolds.{fold-roll-Expr}

@@ -4,7 +4,6 @@ use Rattle.std.specs.Prelude.{encode_utf8_all}
 use Rattle.std.proofs.lemmas.List.{append-nil, append_assoc}
 use Rattle.std.proofs.lemmas.Str.{encodes-append, encode_ascii}
 use Rattle.js_lexer.specs.declared.token.TokenKind.{TokenKind}
-use Rattle.js_printer.specs.declared.edge.Edge.{Edge}
 use Rattle.js_printer.specs.declared.writer.Printer.{Printer}
 use Rattle.js_printer.specs.Edges.{front, back, meet, nothing}
 use Rattle.js_printer.specs.Printed.{Kinds}

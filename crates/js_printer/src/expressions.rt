@@ -26,14 +26,7 @@ use std::alloc::AllocError;
 
 /// An expression without parentheses around it, where the operator `in` may stand or not.
 #[cycle(print)]
-#[tactic(auto, using(
-    crate::proofs::Writing::all_written_append, crate::proofs::Views::index_kinds,
-    crate::proofs::Views::call_kinds, crate::proofs::Views::new_kinds,
-    crate::proofs::Views::postfix_kinds, crate::proofs::Views::binary_kinds,
-    crate::proofs::Views::and_kinds, crate::proofs::Views::or_kinds,
-    crate::proofs::Views::comma_kinds, crate::proofs::Views::cond_kinds,
-    crate::proofs::Views::assign_kinds
-))]
+#[tactic(auto, using(crate::proofs::Writing::all_written_append, crate::proofs::Views::index_kinds, crate::proofs::Views::call_kinds, crate::proofs::Views::new_kinds, crate::proofs::Views::postfix_kinds, crate::proofs::Views::binary_kinds, crate::proofs::Views::and_kinds, crate::proofs::Views::or_kinds, crate::proofs::Views::comma_kinds, crate::proofs::Views::cond_kinds, crate::proofs::Views::assign_kinds))]
 pub fn write_expr(printer: &mut Printer, expr: &Expr, with_in: bool) -> Result<(), AllocError>
     ensures { OnOk result (printer.new ≡ all_written printer.old (parts.expr expr.now with_in)) }
 {
@@ -102,7 +95,13 @@ pub fn write_expr(printer: &mut Printer, expr: &Expr, with_in: bool) -> Result<(
         }
         Expr::Assign(op, target, value) => {
             write_operand(printer, target.get(), CALL, with_in)?;
-            write_behind(printer, assignment_mark(*op), value.get(), ASSIGNMENT, with_in)?;
+            write_behind(
+                printer,
+                assignment_mark(*op),
+                value.get(),
+                ASSIGNMENT,
+                with_in,
+            )?;
             Ok(())
         }
         Expr::Late(entry) => printer.late(*entry),
@@ -220,7 +219,13 @@ fn write_constructor(printer: &mut Printer, callee: &Expr, with_in: bool) -> Res
         ∷ parts.operand_for (parts.is_constructor callee.now) with_in 16 callee.now)) }
 {
     printer.word(Word::New)?;
-    write_operand_for(printer, is_function(callee) || has_call(callee), callee, CALL, with_in)
+    write_operand_for(
+        printer,
+        is_function(callee) || has_call(callee),
+        callee,
+        CALL,
+        with_in,
+    )
 }
 
 /// Arguments in their parentheses (ES3 11.2.4).

@@ -8,13 +8,21 @@ use js_tree::{BinaryOp, Expr, PrefixOp};
 
 // The levels of expressions: what binds less has the lower one (ES3 section 11).
 pub const COMMA: u8 = 1;
+
 pub const ASSIGNMENT: u8 = 2;
+
 pub const CONDITION: u8 = 3;
+
 pub const OR: u8 = 4;
+
 pub const AND: u8 = 5;
+
 pub const PREFIX: u8 = 14;
+
 pub const POSTFIX: u8 = 15;
+
 pub const CALL: u8 = 16;
+
 const PRIMARY: u8 = 19;
 
 /// The level of an operation (ES3 11.5 to 11.10).

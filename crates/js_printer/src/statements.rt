@@ -22,11 +22,7 @@ use std::alloc::AllocError;
 
 /// A statement, or a function declaration (ES3 section 13).
 #[cycle(print)]
-#[tactic(auto, using(
-    crate::proofs::Writing::all_written_append, crate::proofs::StatementViews::do_kinds,
-    crate::proofs::StatementViews::while_kinds, crate::proofs::StatementViews::for_in_kinds,
-    crate::proofs::StatementViews::switch_kinds
-))]
+#[tactic(auto, using(crate::proofs::Writing::all_written_append, crate::proofs::StatementViews::do_kinds, crate::proofs::StatementViews::while_kinds, crate::proofs::StatementViews::for_in_kinds, crate::proofs::StatementViews::switch_kinds))]
 pub fn write_stmt(printer: &mut Printer, stmt: &Stmt) -> Result<(), AllocError>
     ensures { OnOk result (printer.new ≡ all_written printer.old (parts.stmt stmt.now)) }
 {
@@ -169,11 +165,7 @@ fn write_header(printer: &mut Printer, word: Word, expr: &Expr) -> Result<(), Al
 /// A statement behind a word.
 #[cycle(print)]
 #[tactic(auto, using(crate::proofs::Writing::all_written_append))]
-fn write_behind(
-    printer: &mut Printer,
-    word: Word,
-    stmt: &Stmt,
-) -> Result<(), AllocError>
+fn write_behind(printer: &mut Printer, word: Word, stmt: &Stmt) -> Result<(), AllocError>
     ensures { OnOk result
         (printer.new ≡ all_written printer.old (k.Word word ∷ parts.stmt stmt.now)) }
 {
@@ -303,11 +295,7 @@ fn write_target(printer: &mut Printer, target: &ForTarget) -> Result<(), AllocEr
 /// A declarator of a `var` list (ES3 12.2).
 #[cycle(print)]
 #[tactic(auto, using(crate::proofs::Writing::all_written_append))]
-fn write_var_item(
-    printer: &mut Printer,
-    item: &VarItem,
-    with_in: bool,
-) -> Result<(), AllocError>
+fn write_var_item(printer: &mut Printer, item: &VarItem, with_in: bool) -> Result<(), AllocError>
     ensures { OnOk result
         (printer.new ≡ all_written printer.old (parts.var_item item.now with_in)) }
 {
@@ -338,11 +326,7 @@ fn write_initialiser(
 /// The declarators of a `var` list, with commas between (ES3 12.2).
 #[cycle(print)]
 #[tactic(auto, using(crate::proofs::Writing::all_written_append))]
-fn write_var_items(
-    printer: &mut Printer,
-    items: &VarItems,
-    with_in: bool,
-) -> Result<(), AllocError>
+fn write_var_items(printer: &mut Printer, items: &VarItems, with_in: bool) -> Result<(), AllocError>
     ensures { OnOk result
         (printer.new ≡ all_written printer.old (parts.var_items items.now with_in)) }
 {

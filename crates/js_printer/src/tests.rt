@@ -11,57 +11,89 @@ use std::test::Fail;
 
 type Made<T> = Result<T, AllocError>;
 
-fn name(alloc: Global, text: &str) -> Made<Expr> {
-    Ok(Expr::Name(units_of(alloc, text)?))
+/// A step by which a tree is made on a stack. It takes its operands from there, the last one first.
+#[derive(Clone, Copy)]
+enum Step {
+    Num(u64),
+    Str(&'static str),
+    True,
+    Null,
+    This,
+    Name(&'static str),
+    Late(u32),
+    /// `function(){}`
+    Function,
+    /// An object of these keys, each with the value 1.
+    Object(&'static [&'static str]),
+    Hole,
+    /// An array of so many elements.
+    Array(usize),
+    Dot(&'static str),
+    Index,
+    /// A call with so many arguments.
+    Call(usize),
+    New,
+    Increment,
+    Prefix(PrefixOp),
+    Binary(BinaryOp),
+    And,
+    Or,
+    Comma,
+    Cond,
+    Assign(Option<BinaryOp>),
 }
 
-fn prefix(alloc: Global, op: PrefixOp, operand: Expr) -> Made<Expr> {
-    Ok(Expr::Prefix(op, Boxed::new(alloc, operand)?))
+type Stack = Vec<Option<Expr>>;
+
+fn taken(stack: &mut Stack) -> Expr {
+    match stack.pop() {
+        Some(Some(expr)) => expr,
+        _ => Expr::Null,
+    }
 }
 
-fn postfix(alloc: Global, target: Expr) -> Made<Expr> {
-    Ok(Expr::Postfix(Boxed::new(alloc, target)?, PostfixOp::Increment))
+fn boxed(alloc: Global, stack: &mut Stack) -> Made<Boxed<Expr>> {
+    Boxed::new(alloc, taken(stack))
 }
 
-fn binary(alloc: Global, op: BinaryOp, left: Expr, right: Expr) -> Made<Expr> {
-    Ok(Expr::Binary(op, Boxed::new(alloc, left)?, Boxed::new(alloc, right)?))
+/// The last two.
+fn pair(alloc: Global, stack: &mut Stack) -> Made<(Boxed<Expr>, Boxed<Expr>)> {
+    let right = boxed(alloc, stack)?;
+    let left = boxed(alloc, stack)?;
+    Ok((left, right))
 }
 
-fn and(alloc: Global, left: Expr, right: Expr) -> Made<Expr> {
-    Ok(Expr::And(Boxed::new(alloc, left)?, Boxed::new(alloc, right)?))
+/// The last so many.
+fn last(stack: &mut Stack, count: usize) -> Made<Stack> {
+    let at = stack.len().saturating_sub(count);
+    stack.split_off(at)
 }
 
-fn or(alloc: Global, left: Expr, right: Expr) -> Made<Expr> {
-    Ok(Expr::Or(Boxed::new(alloc, left)?, Boxed::new(alloc, right)?))
+fn array(alloc: Global, items: Stack) -> Made<Expr> {
+    let mut elements = Elements::new(alloc);
+    for item in items {
+        elements.push(item)?;
+    }
+    Ok(Expr::Array(elements))
 }
 
-fn comma(alloc: Global, left: Expr, right: Expr) -> Made<Expr> {
-    Ok(Expr::Comma(Boxed::new(alloc, left)?, Boxed::new(alloc, right)?))
+fn arguments(alloc: Global, items: Stack) -> Made<Exprs> {
+    let mut exprs = Exprs::new(alloc);
+    for item in items {
+        exprs.push(item.unwrap_or(Expr::Null))?;
+    }
+    Ok(exprs)
 }
 
-fn cond(alloc: Global, test: Expr, middle: Expr, other: Expr) -> Made<Expr> {
-    let test = Boxed::new(alloc, test)?;
-    Ok(Expr::Cond(test, Boxed::new(alloc, middle)?, Boxed::new(alloc, other)?))
-}
-
-fn assign(alloc: Global, op: Option<BinaryOp>, target: Expr, value: Expr) -> Made<Expr> {
-    Ok(Expr::Assign(op, Boxed::new(alloc, target)?, Boxed::new(alloc, value)?))
-}
-
-fn dot(alloc: Global, object: Expr, key: &str) -> Made<Expr> {
-    Ok(Expr::Dot(Boxed::new(alloc, object)?, units_of(alloc, key)?))
-}
-
-fn index(alloc: Global, object: Expr, key: Expr) -> Made<Expr> {
-    Ok(Expr::Index(Boxed::new(alloc, object)?, Boxed::new(alloc, key)?))
-}
-
-fn call(alloc: Global, callee: Expr, arguments: Exprs) -> Made<Expr> {
-    Ok(Expr::Call(Boxed::new(alloc, callee)?, arguments))
-}
-
-fn make(alloc: Global, callee: Expr) -> Made<Expr> {
-    Ok(Expr::New(Boxed::new(alloc, callee)?, Exprs::new(alloc)))
+fn object(alloc: Global, keys: &[&str]) -> Made<Expr> {
+    let mut pairs = Pairs::new(alloc);
+    for key in keys {
+        pairs.push(Pair {
+            key: units_of(alloc, key)?,
+            value: Expr::Num(1),
+        })?;
+    }
+    Ok(Expr::Object(pairs))
 }
 
 /// A function of no name, no formal and no statement.
@@ -75,45 +107,69 @@ fn function(alloc: Global) -> Func {
     }
 }
 
-/// `function f(x,y){return;}`
-fn declaration(alloc: Global) -> Made<Func> {
-    let mut formals = Names::new(alloc);
-    formals.push(units_of(alloc, "x")?)?;
-    formals.push(units_of(alloc, "y")?)?;
-    let mut body = Stmts::new(alloc);
-    body.push(Stmt::Return(None))?;
-    Ok(Func {
-        number: 0,
-        name: Some(units_of(alloc, "f")?),
-        formals,
-        body,
-        role: Role::Plain,
+fn operator(alloc: Global, stack: &mut Stack, step: Step) -> Made<Expr> {
+    let (left, right) = pair(alloc, stack)?;
+    Ok(match step {
+        Step::Index => Expr::Index(left, right),
+        Step::Binary(op) => Expr::Binary(op, left, right),
+        Step::And => Expr::And(left, right),
+        Step::Or => Expr::Or(left, right),
+        Step::Assign(op) => Expr::Assign(op, left, right),
+        _ => Expr::Comma(left, right),
     })
 }
 
-fn anonymous(alloc: Global) -> Made<Expr> {
-    Ok(Expr::Func(Boxed::new(alloc, function(alloc))?))
+fn call(alloc: Global, stack: &mut Stack, count: usize) -> Made<Expr> {
+    let arguments = arguments(alloc, last(stack, count)?)?;
+    Ok(Expr::Call(boxed(alloc, stack)?, arguments))
 }
 
-fn block(alloc: Global) -> Made<Boxed<Stmt>> {
-    Boxed::new(alloc, Stmt::Block(Stmts::new(alloc)))
+fn condition(alloc: Global, stack: &mut Stack) -> Made<Expr> {
+    let other = boxed(alloc, stack)?;
+    let (test, middle) = pair(alloc, stack)?;
+    Ok(Expr::Cond(test, middle, other))
 }
 
-fn empty(alloc: Global) -> Made<Boxed<Stmt>> {
-    Boxed::new(alloc, Stmt::Empty)
+fn stepped(alloc: Global, stack: &mut Stack, step: Step) -> Made<Expr> {
+    match step {
+        Step::Num(number) => Ok(Expr::Num(number)),
+        Step::Str(text) => Ok(Expr::Str(units_of(alloc, text)?)),
+        Step::True => Ok(Expr::Bool(true)),
+        Step::Null | Step::Hole => Ok(Expr::Null),
+        Step::This => Ok(Expr::This),
+        Step::Name(name) => Ok(Expr::Name(units_of(alloc, name)?)),
+        Step::Late(entry) => Ok(Expr::Late(entry)),
+        Step::Function => Ok(Expr::Func(Boxed::new(alloc, function(alloc))?)),
+        Step::Object(keys) => object(alloc, keys),
+        Step::Array(count) => array(alloc, last(stack, count)?),
+        Step::Dot(name) => Ok(Expr::Dot(boxed(alloc, stack)?, units_of(alloc, name)?)),
+        Step::Call(count) => call(alloc, stack, count),
+        Step::New => Ok(Expr::New(boxed(alloc, stack)?, Exprs::new(alloc))),
+        Step::Increment => Ok(Expr::Postfix(boxed(alloc, stack)?, PostfixOp::Increment)),
+        Step::Prefix(op) => Ok(Expr::Prefix(op, boxed(alloc, stack)?)),
+        Step::Cond => condition(alloc, stack),
+        Step::Index | Step::Binary(_) | Step::And | Step::Or | Step::Comma | Step::Assign(_) => {
+            operator(alloc, stack, step)
+        }
+    }
 }
 
-/// `a in b`
-fn membership(alloc: Global) -> Made<Expr> {
-    binary(alloc, BinaryOp::In, name(alloc, "a")?, name(alloc, "b")?)
+fn push(alloc: Global, stack: &mut Stack, step: Step) -> Made<()> {
+    if matches!(step, Step::Hole) {
+        stack.push(None)?;
+        return Ok(());
+    }
+    let expr = stepped(alloc, stack, step)?;
+    stack.push(Some(expr))?;
+    Ok(())
 }
 
-fn sum(alloc: Global, left: &str, right: &str) -> Made<Expr> {
-    binary(alloc, BinaryOp::Add, name(alloc, left)?, name(alloc, right)?)
-}
-
-fn difference(alloc: Global, left: Expr, right: Expr) -> Made<Expr> {
-    binary(alloc, BinaryOp::Subtract, left, right)
+fn made(alloc: Global, steps: &[Step]) -> Made<Expr> {
+    let mut stack = Vec::new(alloc);
+    for step in steps {
+        push(alloc, &mut stack, *step)?;
+    }
+    Ok(taken(&mut stack))
 }
 
 fn prints(rt: &impl Abort, alloc: Global, stmt: Stmt, expected: &str) -> Made<()> {
@@ -124,279 +180,349 @@ fn prints(rt: &impl Abort, alloc: Global, stmt: Stmt, expected: &str) -> Made<()
     Ok(())
 }
 
-fn shows(rt: &impl Abort, alloc: Global, expr: Expr, expected: &str) -> Made<()> {
+/// The text of an expression statement.
+fn shows(rt: &impl Abort, alloc: Global, steps: &[Step], expected: &str) -> Made<()> {
+    let expr = made(alloc, steps)?;
     prints(rt, alloc, Stmt::Do(expr), expected)
 }
+
+const A: Step = Step::Name("a");
+
+const B: Step = Step::Name("b");
+
+const C: Step = Step::Name("c");
+
+const ADD: Step = Step::Binary(BinaryOp::Add);
+
+const IN: Step = Step::Binary(BinaryOp::In);
+
+const PLUS: Step = Step::Prefix(PrefixOp::Plus);
+
+const MINUS: Step = Step::Prefix(PrefixOp::Minus);
+
+const TYPE_OF: Step = Step::Prefix(PrefixOp::TypeOf);
+
+const ONE: Step = Step::Num(1);
+
+const TWO: Step = Step::Num(2);
+
+const THREE: Step = Step::Num(3);
 
 #[test]
 fn literals(rt: HostRuntime) -> Result<(), Fail> {
     let alloc = rt.alloc();
-    shows(&rt, alloc, Expr::Num(9_007_199_254_740_991), "9007199254740991;")?;
-    shows(&rt, alloc, Expr::Str(units_of(alloc, "a\"\u{e9}")?), "\"a\\\"\\u00e9\";")?;
-    shows(&rt, alloc, Expr::Bool(true), "true;")?;
-    shows(&rt, alloc, Expr::Bool(false), "false;")?;
-    shows(&rt, alloc, Expr::Null, "null;")?;
-    shows(&rt, alloc, Expr::This, "this;")?;
-    shows(&rt, alloc, name(alloc, "\u{3b1}$")?, "\u{3b1}$;")?;
-    shows(&rt, alloc, Expr::Late(7), "eval($dl_get(7));")?;
-    prints(&rt, alloc, Stmt::Used(7), "$dl_use(7);")?;
-    Ok(())
-}
-
-fn array(alloc: Global, first: Option<Expr>, second: Option<Expr>) -> Made<Expr> {
-    let mut elements = Elements::new(alloc);
-    elements.push(first)?;
-    elements.push(second)?;
-    Ok(Expr::Array(elements))
-}
-
-#[test]
-fn a_list_that_ends_with_a_hole_has_one_more_comma(rt: HostRuntime) -> Result<(), Fail> {
-    let alloc = rt.alloc();
-    shows(&rt, alloc, Expr::Array(Elements::new(alloc)), "[];")?;
-    shows(&rt, alloc, array(alloc, Some(Expr::Num(1)), Some(Expr::Num(2)))?, "[1,2];")?;
-    shows(&rt, alloc, array(alloc, Some(Expr::Num(1)), None)?, "[1,,];")?;
-    shows(&rt, alloc, array(alloc, None, Some(Expr::Num(1)))?, "[,1];")?;
-    shows(&rt, alloc, array(alloc, None, None)?, "[,,];")?;
-    let both = comma(alloc, Expr::Num(1), Expr::Num(2))?;
-    shows(&rt, alloc, array(alloc, Some(both), None)?, "[(1,2),,];")?;
-    Ok(())
-}
-
-fn keyed(alloc: Global, keys: &[&str]) -> Made<Expr> {
-    let mut pairs = Pairs::new(alloc);
-    for key in keys {
-        pairs.push(Pair {
-            key: units_of(alloc, key)?,
-            value: Expr::Num(1),
-        })?;
+    let rows: [(&[Step], &str); 7] = [
+        (&[Step::Num(9_007_199_254_740_991)], "9007199254740991;"),
+        (&[Step::Str("a\"\u{e9}")], "\"a\\\"\\u00e9\";"),
+        (&[Step::True], "true;"),
+        (&[Step::Null], "null;"),
+        (&[Step::This], "this;"),
+        (&[Step::Name("\u{3b1}$")], "\u{3b1}$;"),
+        (&[Step::Late(7)], "eval($dl_get(7));"),
+    ];
+    for (steps, expected) in rows {
+        shows(&rt, alloc, steps, expected)?;
     }
-    Ok(Expr::Object(pairs))
+    Ok(())
 }
 
 #[test]
-fn keys_are_names_or_strings(rt: HostRuntime) -> Result<(), Fail> {
+fn arrays_and_objects(rt: HostRuntime) -> Result<(), Fail> {
     let alloc = rt.alloc();
-    shows(&rt, alloc, keyed(alloc, &[])?, "({});")?;
-    shows(&rt, alloc, keyed(alloc, &["a", "$_1"])?, "({a:1,$_1:1});")?;
-    shows(&rt, alloc, keyed(alloc, &["a b", "1", ""])?, "({\"a b\":1,\"1\":1,\"\":1});")?;
-    shows(&rt, alloc, keyed(alloc, &["if", "iff"])?, "({\"if\":1,iff:1});")?;
-    shows(&rt, alloc, keyed(alloc, &["\u{e9}"])?, "({\"\\u00e9\":1});")?;
+    let rows: [(&[Step], &str); 11] = [
+        (&[Step::Array(0)], "[];"),
+        (&[ONE, TWO, Step::Array(2)], "[1,2];"),
+        (&[ONE, Step::Hole, Step::Array(2)], "[1,,];"),
+        (&[Step::Hole, ONE, Step::Array(2)], "[,1];"),
+        (&[Step::Hole, Step::Hole, Step::Array(2)], "[,,];"),
+        (&[ONE, TWO, Step::Comma, Step::Array(1)], "[(1,2)];"),
+        (&[Step::Object(&[])], "({});"),
+        (&[Step::Object(&["a", "$_1"])], "({a:1,$_1:1});"),
+        (
+            &[Step::Object(&["a b", "1", ""])],
+            "({\"a b\":1,\"1\":1,\"\":1});",
+        ),
+        (&[Step::Object(&["if", "iff"])], "({\"if\":1,iff:1});"),
+        (&[Step::Object(&["\u{e9}"])], "({\"\\u00e9\":1});"),
+    ];
+    for (steps, expected) in rows {
+        shows(&rt, alloc, steps, expected)?;
+    }
     Ok(())
 }
 
 #[test]
 fn members_and_calls(rt: HostRuntime) -> Result<(), Fail> {
     let alloc = rt.alloc();
-    let none = Exprs::new(alloc);
-    shows(&rt, alloc, dot(alloc, name(alloc, "a")?, "b")?, "a.b;")?;
-    shows(&rt, alloc, dot(alloc, Expr::Num(1), "b")?, "(1).b;")?;
-    shows(&rt, alloc, index(alloc, Expr::Num(1), Expr::Num(2))?, "1[2];")?;
-    let key = comma(alloc, Expr::Num(1), Expr::Num(2))?;
-    shows(&rt, alloc, index(alloc, name(alloc, "a")?, key)?, "a[1,2];")?;
-    shows(&rt, alloc, dot(alloc, anonymous(alloc)?, "b")?, "(function(){}).b;")?;
-    shows(&rt, alloc, call(alloc, anonymous(alloc)?, none)?, "(function(){})();")?;
-    let mut arguments = Exprs::new(alloc);
-    arguments.push(Expr::Num(1))?;
-    arguments.push(comma(alloc, Expr::Num(2), Expr::Num(3))?)?;
-    shows(&rt, alloc, call(alloc, name(alloc, "f")?, arguments)?, "f(1,(2,3));")?;
+    let rows: [(&[Step], &str); 12] = [
+        (&[A, Step::Dot("b")], "a.b;"),
+        (&[ONE, Step::Dot("b")], "(1).b;"),
+        (&[ONE, TWO, Step::Index], "1[2];"),
+        (&[A, ONE, TWO, Step::Comma, Step::Index], "a[1,2];"),
+        (&[Step::Function, Step::Call(0)], "(function(){})();"),
+        (
+            &[A, ONE, TWO, THREE, Step::Comma, Step::Call(2)],
+            "a(1,(2,3));",
+        ),
+        (&[A, Step::New], "new a();"),
+        (&[A, Step::Dot("b"), Step::New], "new a.b();"),
+        (&[A, Step::New, Step::New], "new new a()();"),
+        (
+            &[A, Step::Call(0), Step::Dot("b"), Step::New],
+            "new(a().b)();",
+        ),
+        (&[Step::Function, Step::New], "new(function(){})();"),
+        (&[A, B, ADD, Step::Dot("c"), Step::Increment], "(a+b).c++;"),
+    ];
+    for (steps, expected) in rows {
+        shows(&rt, alloc, steps, expected)?;
+    }
     Ok(())
 }
 
 #[test]
-fn what_new_is_given(rt: HostRuntime) -> Result<(), Fail> {
+fn spaces(rt: HostRuntime) -> Result<(), Fail> {
     let alloc = rt.alloc();
-    shows(&rt, alloc, make(alloc, name(alloc, "a")?)?, "new a();")?;
-    shows(&rt, alloc, make(alloc, dot(alloc, name(alloc, "a")?, "b")?)?, "new a.b();")?;
-    shows(&rt, alloc, make(alloc, make(alloc, name(alloc, "a")?)?)?, "new new a()();")?;
-    let called = call(alloc, name(alloc, "a")?, Exprs::new(alloc))?;
-    shows(&rt, alloc, make(alloc, dot(alloc, called, "b")?)?, "new(a().b)();")?;
-    shows(&rt, alloc, make(alloc, anonymous(alloc)?)?, "new(function(){})();")?;
+    let rows: [(&[Step], &str); 10] = [
+        (&[A, MINUS, MINUS], "- -a;"),
+        (&[A, PLUS, MINUS], "-+a;"),
+        (&[A, Step::Prefix(PrefixOp::Increment), PLUS], "+ ++a;"),
+        (&[A, B, PLUS, ADD], "a+ +b;"),
+        (&[A, Step::Increment, B, ADD], "a+++b;"),
+        (&[A, TYPE_OF], "typeof a;"),
+        (&[A, B, ADD, TYPE_OF], "typeof(a+b);"),
+        (&[A, Step::Prefix(PrefixOp::Not)], "!a;"),
+        (&[A, B, IN], "a in b;"),
+        (&[ONE, Step::Array(0), IN], "1 in[];"),
+    ];
+    for (steps, expected) in rows {
+        shows(&rt, alloc, steps, expected)?;
+    }
     Ok(())
 }
 
 #[test]
-fn a_space_stands_between_signs_that_would_join(rt: HostRuntime) -> Result<(), Fail> {
+fn parentheses(rt: HostRuntime) -> Result<(), Fail> {
     let alloc = rt.alloc();
-    let a = name(alloc, "a")?;
-    let minus = prefix(alloc, PrefixOp::Minus, prefix(alloc, PrefixOp::Minus, a)?)?;
-    shows(&rt, alloc, minus, "- -a;")?;
-    let a = name(alloc, "a")?;
-    let both = prefix(alloc, PrefixOp::Minus, prefix(alloc, PrefixOp::Plus, a)?)?;
-    shows(&rt, alloc, both, "-+a;")?;
-    let a = name(alloc, "a")?;
-    let plus = prefix(alloc, PrefixOp::Plus, prefix(alloc, PrefixOp::Increment, a)?)?;
-    shows(&rt, alloc, plus, "+ ++a;")?;
-    let b = prefix(alloc, PrefixOp::Plus, name(alloc, "b")?)?;
-    shows(&rt, alloc, binary(alloc, BinaryOp::Add, name(alloc, "a")?, b)?, "a+ +b;")?;
-    let a = postfix(alloc, name(alloc, "a")?)?;
-    shows(&rt, alloc, binary(alloc, BinaryOp::Add, a, name(alloc, "b")?)?, "a+++b;")?;
-    Ok(())
-}
-
-#[test]
-fn a_space_stands_between_names(rt: HostRuntime) -> Result<(), Fail> {
-    let alloc = rt.alloc();
-    let a = name(alloc, "a")?;
-    shows(&rt, alloc, prefix(alloc, PrefixOp::TypeOf, a)?, "typeof a;")?;
-    let both = sum(alloc, "a", "b")?;
-    shows(&rt, alloc, prefix(alloc, PrefixOp::TypeOf, both)?, "typeof(a+b);")?;
-    shows(&rt, alloc, membership(alloc)?, "a in b;")?;
-    let list = Expr::Array(Elements::new(alloc));
-    shows(&rt, alloc, binary(alloc, BinaryOp::In, Expr::Num(1), list)?, "1 in[];")?;
-    shows(&rt, alloc, prefix(alloc, PrefixOp::Not, name(alloc, "a")?)?, "!a;")?;
-    Ok(())
-}
-
-#[test]
-fn operands_below_their_level_are_in_parentheses(rt: HostRuntime) -> Result<(), Fail> {
-    let alloc = rt.alloc();
-    let c = name(alloc, "c")?;
-    let product = binary(alloc, BinaryOp::Multiply, sum(alloc, "a", "b")?, c)?;
-    shows(&rt, alloc, product, "(a+b)*c;")?;
-    let left = difference(alloc, sum(alloc, "a", "b")?, name(alloc, "c")?)?;
-    shows(&rt, alloc, left, "a+b-c;")?;
-    let right = difference(alloc, name(alloc, "a")?, sum(alloc, "b", "c")?)?;
-    shows(&rt, alloc, right, "a-(b+c);")?;
-    let target = dot(alloc, sum(alloc, "a", "b")?, "c")?;
-    shows(&rt, alloc, postfix(alloc, target)?, "(a+b).c++;")?;
-    Ok(())
-}
-
-#[test]
-fn logical_operators(rt: HostRuntime) -> Result<(), Fail> {
-    let alloc = rt.alloc();
-    let both = and(alloc, name(alloc, "b")?, name(alloc, "c")?)?;
-    shows(&rt, alloc, or(alloc, name(alloc, "a")?, both)?, "a||b&&c;")?;
-    let one = or(alloc, name(alloc, "a")?, name(alloc, "b")?)?;
-    shows(&rt, alloc, and(alloc, one, name(alloc, "c")?)?, "(a||b)&&c;")?;
-    let inner = cond(alloc, Expr::Num(1), Expr::Num(2), Expr::Num(3))?;
-    shows(&rt, alloc, cond(alloc, inner, Expr::Num(4), Expr::Num(5))?, "(1?2:3)?4:5;")?;
-    let inner = cond(alloc, Expr::Num(2), Expr::Num(3), Expr::Num(4))?;
-    shows(&rt, alloc, cond(alloc, Expr::Num(1), Expr::Num(5), inner)?, "1?5:2?3:4;")?;
-    Ok(())
-}
-
-#[test]
-fn assignments(rt: HostRuntime) -> Result<(), Fail> {
-    let alloc = rt.alloc();
-    let inner = assign(alloc, None, name(alloc, "b")?, name(alloc, "c")?)?;
-    shows(&rt, alloc, assign(alloc, None, name(alloc, "a")?, inner)?, "a=b=c;")?;
-    let shift = Some(BinaryOp::ShiftRightUnsigned);
-    shows(&rt, alloc, assign(alloc, shift, name(alloc, "a")?, Expr::Num(1))?, "a>>>=1;")?;
-    let value = comma(alloc, Expr::Num(1), Expr::Num(2))?;
-    shows(&rt, alloc, assign(alloc, None, name(alloc, "a")?, value)?, "a=(1,2);")?;
+    let times = Step::Binary(BinaryOp::Multiply);
+    let minus = Step::Binary(BinaryOp::Subtract);
+    let shift = Step::Assign(Some(BinaryOp::ShiftRightUnsigned));
+    let rows: [(&[Step], &str); 10] = [
+        (&[A, B, ADD, C, times], "(a+b)*c;"),
+        (&[A, B, ADD, C, minus], "a+b-c;"),
+        (&[A, B, C, ADD, minus], "a-(b+c);"),
+        (&[A, B, C, Step::And, Step::Or], "a||b&&c;"),
+        (&[A, B, Step::Or, C, Step::And], "(a||b)&&c;"),
+        (&[A, ONE, TWO, Step::Cond, B, C, Step::Cond], "(a?1:2)?b:c;"),
+        (&[A, B, C, ONE, TWO, Step::Cond, Step::Cond], "a?b:c?1:2;"),
+        (&[A, B, C, Step::Assign(None), Step::Assign(None)], "a=b=c;"),
+        (&[A, ONE, shift], "a>>>=1;"),
+        (&[A, ONE, TWO, Step::Comma, Step::Assign(None)], "a=(1,2);"),
+    ];
+    for (steps, expected) in rows {
+        shows(&rt, alloc, steps, expected)?;
+    }
     Ok(())
 }
 
 #[test]
 fn an_expression_statement_begins_as_no_other(rt: HostRuntime) -> Result<(), Fail> {
     let alloc = rt.alloc();
-    shows(&rt, alloc, anonymous(alloc)?, "(function(){});")?;
-    let member = dot(alloc, keyed(alloc, &["a"])?, "a")?;
-    shows(&rt, alloc, comma(alloc, member, Expr::Num(1))?, "({a:1}.a,1);")?;
-    let member = dot(alloc, anonymous(alloc)?, "a")?;
-    shows(&rt, alloc, comma(alloc, member, Expr::Num(1))?, "(function(){}).a,1;")?;
-    let value = assign(alloc, None, name(alloc, "a")?, keyed(alloc, &[])?)?;
-    shows(&rt, alloc, value, "a={};")?;
+    let rows: [(&[Step], &str); 4] = [
+        (&[Step::Function], "(function(){});"),
+        (
+            &[Step::Object(&["a"]), Step::Dot("a"), ONE, Step::Comma],
+            "({a:1}.a,1);",
+        ),
+        (
+            &[Step::Function, Step::Dot("a"), ONE, Step::Comma],
+            "(function(){}).a,1;",
+        ),
+        (&[A, Step::Object(&[]), Step::Assign(None)], "a={};"),
+    ];
+    for (steps, expected) in rows {
+        shows(&rt, alloc, steps, expected)?;
+    }
     Ok(())
 }
 
-fn variables(alloc: Global, value: Option<Expr>, more: bool) -> Made<VarItems> {
-    let mut items = VarItems::new(alloc);
-    items.push(VarItem {
+fn empty(alloc: Global) -> Made<Boxed<Stmt>> {
+    Boxed::new(alloc, Stmt::Empty)
+}
+
+fn block(alloc: Global) -> Made<Boxed<Stmt>> {
+    Boxed::new(alloc, Stmt::Block(Stmts::new(alloc)))
+}
+
+/// `a in b`
+fn membership(alloc: Global) -> Made<Expr> {
+    made(alloc, &[A, B, IN])
+}
+
+/// `x=a in b`
+fn variable(alloc: Global) -> Made<VarItem> {
+    Ok(VarItem {
         name: units_of(alloc, "x")?,
-        value,
-    })?;
-    if more {
-        items.push(VarItem {
-            name: units_of(alloc, "y")?,
-            value: None,
-        })?;
-    }
+        value: Some(membership(alloc)?),
+    })
+}
+
+/// `x=a in b,y`
+fn variables(alloc: Global) -> Made<VarItems> {
+    let mut items = VarItems::new(alloc);
+    items.push(variable(alloc)?)?;
+    let name = units_of(alloc, "y")?;
+    items.push(VarItem { name, value: None })?;
     Ok(items)
+}
+
+/// `function f(x,y){return;}`
+fn declaration(alloc: Global) -> Made<Func> {
+    let mut func = function(alloc);
+    func.name = Some(units_of(alloc, "f")?);
+    func.formals.push(units_of(alloc, "x")?)?;
+    func.formals.push(units_of(alloc, "y")?)?;
+    func.body.push(Stmt::Return(None))?;
+    Ok(func)
 }
 
 #[test]
 fn simple_statements(rt: HostRuntime) -> Result<(), Fail> {
     let alloc = rt.alloc();
     prints(&rt, alloc, Stmt::Empty, ";")?;
-    let items = variables(alloc, Some(membership(alloc)?), true)?;
-    prints(&rt, alloc, Stmt::Var(items), "var x=a in b,y;")?;
+    prints(&rt, alloc, Stmt::Var(variables(alloc)?), "var x=a in b,y;")?;
     prints(&rt, alloc, Stmt::Continue(None), "continue;")?;
-    prints(&rt, alloc, Stmt::Break(Some(units_of(alloc, "a")?)), "break a;")?;
+    prints(
+        &rt,
+        alloc,
+        Stmt::Break(Some(units_of(alloc, "a")?)),
+        "break a;",
+    )?;
     prints(&rt, alloc, Stmt::Return(Some(Expr::Num(1))), "return 1;")?;
-    prints(&rt, alloc, Stmt::Throw(keyed(alloc, &[])?), "throw{};")?;
-    let label = units_of(alloc, "a")?;
-    prints(&rt, alloc, Stmt::Label(label, block(alloc)?), "a:{}")?;
-    prints(&rt, alloc, Stmt::Declare(declaration(alloc)?), "function f(x,y){return;}")?;
+    prints(&rt, alloc, Stmt::Throw(object(alloc, &[])?), "throw{};")?;
+    prints(
+        &rt,
+        alloc,
+        Stmt::Declare(declaration(alloc)?),
+        "function f(x,y){return;}",
+    )?;
+    prints(&rt, alloc, Stmt::Used(7), "$dl_use(7);")?;
     Ok(())
+}
+
+fn branch(alloc: Global) -> Made<Stmt> {
+    let other = Boxed::new(alloc, Stmt::Do(Expr::Null))?;
+    Ok(Stmt::If(Expr::Num(1), empty(alloc)?, Some(other)))
+}
+
+fn repeated(alloc: Global, body: Stmt) -> Made<Stmt> {
+    Ok(Stmt::DoWhile(Boxed::new(alloc, body)?, Expr::Num(1)))
+}
+
+fn labelled(alloc: Global) -> Made<Stmt> {
+    let name = units_of(alloc, "a")?;
+    Ok(Stmt::Label(name, block(alloc)?))
 }
 
 #[test]
 fn branches_and_loops(rt: HostRuntime) -> Result<(), Fail> {
     let alloc = rt.alloc();
-    let bare = Stmt::If(Expr::Num(1), empty(alloc)?, None);
-    prints(&rt, alloc, bare, "if(1);")?;
-    let other = Boxed::new(alloc, Stmt::Do(Expr::Null))?;
-    let both = Stmt::If(Expr::Num(1), empty(alloc)?, Some(other));
-    prints(&rt, alloc, both, "if(1);else null;")?;
-    prints(&rt, alloc, Stmt::While(membership(alloc)?, empty(alloc)?), "while(a in b);")?;
-    let body = Boxed::new(alloc, Stmt::Do(Expr::This))?;
-    prints(&rt, alloc, Stmt::DoWhile(body, Expr::Num(1)), "do this;while(1);")?;
-    prints(&rt, alloc, Stmt::DoWhile(block(alloc)?, Expr::Num(1)), "do{}while(1);")?;
+    prints(
+        &rt,
+        alloc,
+        Stmt::If(Expr::Num(1), empty(alloc)?, None),
+        "if(1);",
+    )?;
+    prints(&rt, alloc, branch(alloc)?, "if(1);else null;")?;
+    prints(
+        &rt,
+        alloc,
+        Stmt::While(membership(alloc)?, empty(alloc)?),
+        "while(a in b);",
+    )?;
+    prints(
+        &rt,
+        alloc,
+        repeated(alloc, Stmt::Do(Expr::This))?,
+        "do this;while(1);",
+    )?;
+    prints(
+        &rt,
+        alloc,
+        repeated(alloc, Stmt::Block(Stmts::new(alloc)))?,
+        "do{}while(1);",
+    )?;
+    prints(&rt, alloc, labelled(alloc)?, "a:{}")?;
     Ok(())
 }
 
+fn header(alloc: Global, first: ForInit) -> Made<Stmt> {
+    Ok(Stmt::For(
+        first,
+        Some(membership(alloc)?),
+        Some(Expr::Num(1)),
+        empty(alloc)?,
+    ))
+}
+
+fn members(alloc: Global, target: ForTarget) -> Made<Stmt> {
+    Ok(Stmt::ForIn(target, membership(alloc)?, empty(alloc)?))
+}
+
 #[test]
-fn for_headers(rt: HostRuntime) -> Result<(), Fail> {
+fn headers(rt: HostRuntime) -> Result<(), Fail> {
     let alloc = rt.alloc();
     let forever = Stmt::For(ForInit::Nothing, None, None, empty(alloc)?);
     prints(&rt, alloc, forever, "for(;;);")?;
     let first = ForInit::First(membership(alloc)?);
-    let full = Stmt::For(first, Some(membership(alloc)?), Some(Expr::Num(1)), empty(alloc)?);
-    prints(&rt, alloc, full, "for((a in b);a in b;1);")?;
-    let first = ForInit::Vars(variables(alloc, Some(membership(alloc)?), true)?);
-    let vars = Stmt::For(first, None, None, empty(alloc)?);
-    prints(&rt, alloc, vars, "for(var x=(a in b),y;;);")?;
-    let first = ForInit::First(array(alloc, Some(membership(alloc)?), None)?);
-    prints(&rt, alloc, Stmt::For(first, None, None, empty(alloc)?), "for([a in b,,];;);")?;
+    prints(&rt, alloc, header(alloc, first)?, "for((a in b);a in b;1);")?;
+    let first = ForInit::First(made(alloc, &[A, B, IN, Step::Array(1)])?);
+    prints(&rt, alloc, header(alloc, first)?, "for([a in b];a in b;1);")?;
+    let first = ForInit::Vars(variables(alloc)?);
+    prints(
+        &rt,
+        alloc,
+        header(alloc, first)?,
+        "for(var x=(a in b),y;a in b;1);",
+    )?;
+    let target = ForTarget::Var(variable(alloc)?);
+    prints(
+        &rt,
+        alloc,
+        members(alloc, target)?,
+        "for(var x=(a in b)in a in b);",
+    )?;
+    let target = ForTarget::Target(made(alloc, &[A])?);
+    prints(&rt, alloc, members(alloc, target)?, "for(a in a in b);")?;
     Ok(())
 }
 
-#[test]
-fn for_in_headers(rt: HostRuntime) -> Result<(), Fail> {
-    let alloc = rt.alloc();
-    let item = VarItem {
-        name: units_of(alloc, "x")?,
-        value: Some(membership(alloc)?),
-    };
-    let object = comma(alloc, Expr::Num(1), membership(alloc)?)?;
-    let vars = Stmt::ForIn(ForTarget::Var(item), object, empty(alloc)?);
-    prints(&rt, alloc, vars, "for(var x=(a in b)in 1,a in b);")?;
-    let target = ForTarget::Target(name(alloc, "a")?);
-    prints(&rt, alloc, Stmt::ForIn(target, Expr::Null, empty(alloc)?), "for(a in null);")?;
-    Ok(())
+fn clauses(alloc: Global) -> Made<Stmt> {
+    let mut cases = Cases::new(alloc);
+    let mut body = Stmts::new(alloc);
+    body.push(Stmt::Break(None))?;
+    let test = Some(Expr::Num(1));
+    cases.push(Case { test, body })?;
+    let body = Stmts::new(alloc);
+    cases.push(Case { test: None, body })?;
+    Ok(Stmt::Switch(Expr::This, cases))
+}
+
+fn attempt(alloc: Global) -> Made<Stmt> {
+    let caught = (units_of(alloc, "e")?, block(alloc)?);
+    Ok(Stmt::Try(block(alloc)?, Some(caught), Some(block(alloc)?)))
 }
 
 #[test]
 fn clauses_and_handlers(rt: HostRuntime) -> Result<(), Fail> {
     let alloc = rt.alloc();
-    let mut cases = Cases::new(alloc);
-    let mut body = Stmts::new(alloc);
-    body.push(Stmt::Break(None))?;
-    cases.push(Case {
-        test: Some(Expr::Num(1)),
-        body,
-    })?;
-    cases.push(Case {
-        test: None,
-        body: Stmts::new(alloc),
-    })?;
-    prints(&rt, alloc, Stmt::Switch(Expr::This, cases), "switch(this){case 1:break;default:}")?;
-    let caught = Some((units_of(alloc, "e")?, block(alloc)?));
-    let both = Stmt::Try(block(alloc)?, caught, Some(block(alloc)?));
-    prints(&rt, alloc, both, "try{}catch(e){}finally{}")?;
+    prints(
+        &rt,
+        alloc,
+        clauses(alloc)?,
+        "switch(this){case 1:break;default:}",
+    )?;
+    prints(&rt, alloc, attempt(alloc)?, "try{}catch(e){}finally{}")?;
     let last = Stmt::Try(block(alloc)?, None, Some(block(alloc)?));
     prints(&rt, alloc, last, "try{}finally{}")?;
     Ok(())
@@ -417,10 +543,5 @@ fn whole_texts(rt: HostRuntime) -> Result<(), Fail> {
     body.push(Stmt::Empty)?;
     let text = print_script(alloc, &Script { body })?;
     assert_eq!(rt; text.items(), b"function f(x,y){return;};\n".as_slice());
-    let nothing = Script {
-        body: Stmts::new(alloc),
-    };
-    let text = print_script(alloc, &nothing)?;
-    assert_eq!(rt; text.items(), b"\n".as_slice());
     Ok(())
 }

@@ -1,4 +1,4 @@
-use Rattle.std.proofs.Common.{rules, Bool, false, true, List, [], ◌∷◌, ◌++◌, Option, map, refl, sym, ap, ◌∙◌}
+use Rattle.std.proofs.Common.{Bool, false, true, List, [], ◌∷◌, ◌++◌, Option, map, refl, sym, ap, ◌∙◌}
 use Rattle.js_lexer.specs.declared.mark.Mark.TheVariants as m
 use Rattle.js_lexer.specs.declared.token.TokenKind.TheVariants as k
 use Rattle.js_lexer.specs.declared.word.Word.TheVariants as w
@@ -43,9 +43,9 @@ pub expressions::write_elements-loop-element-preserved :
 expressions::write_elements-loop-element-preserved t c =
     let left : Bool → List (Option Expr) → Kinds = λ b es. parts.elements_left b (parts.plain_elements es) in
     elim c.match-element.branch [
-      expressions::write_elements-in-None+in_ok-mark-in-None arm ↦
+      | expressions::write_elements-in-None+in_ok-mark-in-None arm ↦
           next_item left _ _ _ _ _ _ _ _ c.match-element.is_behind c.element-item.result (k.Mark m.Comma ∷ []) (hole_left _ _ _ _ arm.in-None.is arm.is_behind-is) c.items-element-items.ensures c.loop-element-test.true c.element-item.is c.loop-element.invariant c.in_ok-comma.ensures (arm.printer-is ∙ arm.in_ok-mark-in-None.ensures)
-    | expressions::write_elements-in-Some+in_ok-write_operand-in-Some arm ↦
+      | expressions::write_elements-in-Some+in_ok-write_operand-in-Some arm ↦
           next_item left _ _ _ _ _ _ _ _ c.match-element.is_behind c.element-item.result (parts.operand true 2 arm.in-Some.expr) (element_left _ _ _ _ _ arm.in-Some.is arm.is_behind-is) c.items-element-items.ensures c.loop-element-test.true c.element-item.is c.loop-element.invariant c.in_ok-comma.ensures (arm.printer-is ∙ arm.in_ok-write_operand-in-Some.ensures)
     ]
 

@@ -1,4 +1,3 @@
-use Rattle.std.proofs.Common.{◌∙◌, sym}
 use Rattle.js_printer.proofs.Writing.{put_by_parts}
 use Rattle.js_printer.proofs.writer.Printer.write.Goals as goal
 
