@@ -101,10 +101,15 @@ abbrev pub maybe_name : Option Name → Kinds
 maybe_name (Some n) = k.Name n ∷ []
 maybe_name None = []
 
+-- a block begins with it, or a declaration
+abbrev pub opens_another : TokenKind → Bool
+opens_another (k.Mark m.OpenBrace) = true
+opens_another (k.Word w.Function) = true
+opens_another _ = false
+
 abbrev pub begins_as_another : Kinds → Bool
-begins_as_another (k.Mark m.OpenBrace ∷ rest) = true
-begins_as_another (k.Word w.Function ∷ rest) = true
-begins_as_another _ = false
+begins_as_another [] = false
+begins_as_another (kind ∷ rest) = opens_another kind
 
 -- an expression statement that would begin with `{` or `function` is in parentheses
 abbrev pub expression_statement : Kinds → Kinds

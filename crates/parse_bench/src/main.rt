@@ -6,6 +6,8 @@
 
 mod faults;
 #[cfg(test)]
+mod printed_tests;
+#[cfg(test)]
 mod shown;
 #[cfg(test)]
 mod tests;

@@ -1,0 +1,9 @@
+pub mod Edges
+pub mod Writing
+pub mod Spelling
+pub mod Quoted
+pub mod Beginnings
+pub mod Views
+pub mod Loops
+pub mod StatementViews
+pub mod Whole

@@ -1,0 +1,7 @@
+use Rattle.js_printer.specs.Parts as parts
+use Rattle.js_printer.proofs.Whole.{printed_text}
+use Rattle.js_printer.proofs.printing.print_body.Goals as goal
+
+pub returns : goal.returns
+returns c =
+    printed_text _ _ (parts.stmts c.args.body.now) _ c.new-printer.ensures.text c.new-printer.ensures.last c.in_ok-write_stmts.ensures c.into_text.ensures
