@@ -3,6 +3,7 @@ use Rattle.std.proofs.Common.{◌≡◌, Bool, true, false, not, ◌&&◌, ◌||
 use Rattle.js_tree.specs.Tree.{Expr}
 use Rattle.js_tree.specs.Tree
 use Rattle.js_printer.specs.Printed.{Kinds, enclosed_if, begins_as_another, expr}
+use Rattle.js_printer.proofs.Views.{dot_kinds, index_kinds, call_kinds, postfix_kinds, binary_kinds, and_kinds, or_kinds, comma_kinds, cond_kinds, assign_kinds}
 
 has_token : Kinds → Bool
 has_token [] = false
@@ -61,3 +62,6 @@ pub begins_operand : (reason needed : Bool) (u : Kinds) → begins_as_another (e
 begins_operand true needed u = refl
 begins_operand false true u = refl
 begins_operand false false u = refl
+
+-- what `begins_as_another` goes by
+pub ruleset first_parts = (begins_front, dot_kinds, index_kinds, call_kinds, postfix_kinds, binary_kinds, and_kinds, or_kinds, comma_kinds, cond_kinds, assign_kinds)

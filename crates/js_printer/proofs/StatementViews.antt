@@ -21,6 +21,7 @@ use Rattle.js_tree.specs.Plain.{CasePart}
 use Rattle.js_printer.specs.Printed as printed
 use Rattle.js_printer.specs.Printed.{Kinds, enclosed}
 use Rattle.js_printer.specs.Parts as parts
+use Rattle.js_printer.proofs.Writing.{all_written_append}
 
 if_view : (test : Expr) (then : Stmt) (other : Option Stmt) → view.stmt (s.If test then other) ≡ plain.If (view.expr test) (view.stmt then) (view.maybe_stmt (option_map view.stmt other))
 if_view test then None = ap view.stmt (sym (rolls-If test then None)) ∙ search (rules, fold-roll-Stmt)
@@ -136,3 +137,6 @@ func_view f = search (rules, fold_out-Func)
 pub func_kinds : (f : Func) → parts.func f
     ≡ k.Word w.Function ∷ (printed.maybe_name f.name ++ (enclosed (printed.names f.formals) ++ (k.Mark m.OpenBrace ∷ (parts.stmts f.body ++ (k.Mark m.CloseBrace ∷ [])))))
 func_kinds f = ap printed.func (func_view f)
+
+-- what `write_stmt` goes by
+pub ruleset statement_parts = (all_written_append, do_kinds, while_kinds, for_in_kinds, switch_kinds)

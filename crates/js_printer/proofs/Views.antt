@@ -16,6 +16,7 @@ use Rattle.js_tree.specs.Plain as view
 use Rattle.js_printer.specs.Signs.{operation_sign, postfix_sign, assignment}
 use Rattle.js_printer.specs.Printed as printed
 use Rattle.js_printer.specs.Parts as parts
+use Rattle.js_printer.proofs.Writing.{all_written_append}
 
 -- ---- expressions
 
@@ -100,3 +101,6 @@ cond_kinds x y z i = ap (written i) (cond_view x y z)
 pub assign_kinds : (op : Option BinaryOp) (x y : Expr) (i : Bool) → parts.expr (e.Assign op x y) i
     ≡ parts.operand i 16 x ++ (k.Mark (printed.assignment_mark (assignment op)) ∷ parts.operand i 2 y)
 assign_kinds op x y i = ap (written i) (assign_view op x y)
+
+-- what `write_expr` goes by
+pub ruleset expression_parts = (all_written_append, index_kinds, call_kinds, new_kinds, postfix_kinds, binary_kinds, and_kinds, or_kinds, comma_kinds, cond_kinds, assign_kinds)

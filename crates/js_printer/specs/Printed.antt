@@ -1,5 +1,6 @@
 -- What a tree is written as: its tokens, by cases on the tree, with the least parentheses.
-use Rattle.std.specs.Prelude.{ℕ, suc, ◌||◌, ◌&&◌, nat_lt, not, Bool, true, false, List, [], ◌∷◌, ◌++◌, codes, Option, Some, None, if◌then◌else◌}
+use Rattle.std.specs.Prelude.{ℕ, suc, ◌||◌, ◌&&◌, nat_lt, not, Bool, true, false, List, [], ◌∷◌}
+use Rattle.std.specs.Prelude.{◌++◌, codes, Option, Some, None, if◌then◌else◌}
 use Rattle.std.specs.List.{list_all}
 use Rattle.js_lexer.specs.Names.{is_name}
 use Rattle.js_lexer.specs.declared.mark.Mark.{Mark}
@@ -163,8 +164,9 @@ abbrev mutual
       operand i 16 target (expr target)
       ++ (k.Mark (assignment_mark (assignment op)) ∷ operand i 2 value (expr value))
   expr (Tree.Late n) i =
-      k.Name (codes "eval") ∷ k.Mark m.OpenParenthesis ∷ k.Name (codes "$dl_get") ∷ k.Mark m.OpenParenthesis
-      ∷ k.Number n ∷ k.Mark m.CloseParenthesis ∷ k.Mark m.CloseParenthesis ∷ []
+      k.Name (codes "eval") ∷ k.Mark m.OpenParenthesis
+      ∷ k.Name (codes "$dl_get") ∷ k.Mark m.OpenParenthesis ∷ k.Number n
+      ∷ k.Mark m.CloseParenthesis ∷ k.Mark m.CloseParenthesis ∷ []
 
   -- arguments, with commas between
   pub exprs : Tree.Exprs → Kinds

@@ -1,6 +1,7 @@
 -- The text of tokens, and of whole trees. A text is a list of characters here, and its bytes are
 -- theirs in UTF-8.
-use Rattle.std.specs.Prelude.{ℕ, ◌||◌, ◌&&◌, Bool, true, false, List, [], ◌∷◌, ◌++◌, codes, encode_utf8_all}
+use Rattle.std.specs.Prelude.{ℕ, ◌||◌, ◌&&◌, Bool, true, false, List, [], ◌∷◌, ◌++◌, codes}
+use Rattle.std.specs.Prelude.{encode_utf8_all}
 use Rattle.std.specs.Char.Utf16.{utf16_lossy_chars}
 use Rattle.std.specs.Fmt.{decimal}
 use Rattle.dl_text.specs.Quote.{quoted}

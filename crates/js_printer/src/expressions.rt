@@ -1,6 +1,8 @@
 //! Expressions (ES3 section 11). Each function writes its part of the tree, and its contract says
 //! which tokens these are.
 
+#![tactic(auto, using(crate::proofs::Writing::all_written_append))]
+
 ghost use Rattle.std.specs.Prelude.{◌≡◌, ◌++◌, ◌∷◌, [], true, OnOk};
 ghost use Rattle.js_lexer.specs.declared.mark.Mark.TheVariants as m;
 ghost use Rattle.js_lexer.specs.declared.token.TokenKind.TheVariants as k;
@@ -26,7 +28,7 @@ use std::alloc::AllocError;
 
 /// An expression without parentheses around it, where the operator `in` may stand or not.
 #[cycle(print)]
-#[tactic(auto, using(crate::proofs::Writing::all_written_append, crate::proofs::Views::index_kinds, crate::proofs::Views::call_kinds, crate::proofs::Views::new_kinds, crate::proofs::Views::postfix_kinds, crate::proofs::Views::binary_kinds, crate::proofs::Views::and_kinds, crate::proofs::Views::or_kinds, crate::proofs::Views::comma_kinds, crate::proofs::Views::cond_kinds, crate::proofs::Views::assign_kinds))]
+#[tactic(auto, using(crate::proofs::Views::expression_parts))]
 pub fn write_expr(printer: &mut Printer, expr: &Expr, with_in: bool) -> Result<(), AllocError>
     ensures { OnOk result (printer.new ≡ all_written printer.old (parts.expr expr.now with_in)) }
 {
@@ -110,7 +112,6 @@ pub fn write_expr(printer: &mut Printer, expr: &Expr, with_in: bool) -> Result<(
 
 /// An operand whose place needs this level, in parentheses where it is below.
 #[cycle(print)]
-#[tactic(auto, using(crate::proofs::Writing::all_written_append))]
 pub fn write_operand(
     printer: &mut Printer,
     expr: &Expr,
@@ -125,7 +126,6 @@ pub fn write_operand(
 
 /// An operand that is in parentheses for a reason of its place too.
 #[cycle(print)]
-#[tactic(auto, using(crate::proofs::Writing::all_written_append))]
 fn write_operand_for(
     printer: &mut Printer,
     reason: bool,
@@ -145,7 +145,6 @@ fn write_operand_for(
 
 /// An expression in parentheses.
 #[cycle(print)]
-#[tactic(auto, using(crate::proofs::Writing::all_written_append))]
 pub fn write_enclosed(printer: &mut Printer, expr: &Expr) -> Result<(), AllocError>
     ensures { OnOk result
         (printer.new ≡ all_written printer.old (printed.enclosed (parts.expr expr.now true))) }
@@ -157,7 +156,6 @@ pub fn write_enclosed(printer: &mut Printer, expr: &Expr) -> Result<(), AllocErr
 
 /// An operand behind a mark.
 #[cycle(print)]
-#[tactic(auto, using(crate::proofs::Writing::all_written_append))]
 fn write_behind(
     printer: &mut Printer,
     mark: Mark,
@@ -174,7 +172,6 @@ fn write_behind(
 
 /// A property by its name (ES3 11.2.1).
 #[cycle(print)]
-#[tactic(auto, using(crate::proofs::Writing::all_written_append))]
 fn write_dot(
     printer: &mut Printer,
     object: &Boxed<Expr>,
@@ -193,7 +190,6 @@ fn write_dot(
 
 /// A computed key in its brackets (ES3 11.2.1).
 #[cycle(print)]
-#[tactic(auto, using(crate::proofs::Writing::all_written_append))]
 fn write_key(printer: &mut Printer, key: &Expr) -> Result<(), AllocError>
     ensures { OnOk result (printer.new ≡ all_written printer.old
         (k.Mark m.OpenBracket ∷ (parts.operand true 1 key.now ++ (k.Mark m.CloseBracket ∷ [])))) }
@@ -230,7 +226,6 @@ fn write_constructor(printer: &mut Printer, callee: &Expr, with_in: bool) -> Res
 
 /// Arguments in their parentheses (ES3 11.2.4).
 #[cycle(print)]
-#[tactic(auto, using(crate::proofs::Writing::all_written_append))]
 fn write_arguments(printer: &mut Printer, arguments: &Exprs) -> Result<(), AllocError>
     ensures { OnOk result
         (printer.new ≡ all_written printer.old (printed.enclosed (parts.exprs arguments.now))) }
@@ -242,7 +237,6 @@ fn write_arguments(printer: &mut Printer, arguments: &Exprs) -> Result<(), Alloc
 
 /// Arguments with commas between.
 #[cycle(print)]
-#[tactic(auto, using(crate::proofs::Writing::all_written_append))]
 fn write_exprs(printer: &mut Printer, exprs: &Exprs) -> Result<(), AllocError>
     ensures { OnOk result (printer.new ≡ all_written printer.old (parts.exprs exprs.now)) }
 {
@@ -257,7 +251,6 @@ fn write_exprs(printer: &mut Printer, exprs: &Exprs) -> Result<(), AllocError>
 
 /// An array literal (ES3 11.1.4). A hole has its comma itself, also where it is the last.
 #[cycle(print)]
-#[tactic(auto, using(crate::proofs::Writing::all_written_append))]
 fn write_array(printer: &mut Printer, elements: &Elements) -> Result<(), AllocError>
     ensures { OnOk result (printer.new ≡ all_written printer.old
         (k.Mark m.OpenBracket ∷ (parts.elements elements.now ++ (k.Mark m.CloseBracket ∷ [])))) }
@@ -269,7 +262,6 @@ fn write_array(printer: &mut Printer, elements: &Elements) -> Result<(), AllocEr
 
 /// Elements with commas between, and one more where the last is a hole.
 #[cycle(print)]
-#[tactic(auto, using(crate::proofs::Writing::all_written_append))]
 fn write_elements(printer: &mut Printer, elements: &Elements) -> Result<(), AllocError>
     ensures { OnOk result (printer.new ≡ all_written printer.old (parts.elements elements.now)) }
 {
@@ -293,7 +285,6 @@ fn write_elements(printer: &mut Printer, elements: &Elements) -> Result<(), Allo
 
 /// An object literal (ES3 11.1.5).
 #[cycle(print)]
-#[tactic(auto, using(crate::proofs::Writing::all_written_append))]
 fn write_object(printer: &mut Printer, pairs: &Pairs) -> Result<(), AllocError>
     ensures { OnOk result (printer.new ≡ all_written printer.old
         (k.Mark m.OpenBrace ∷ (parts.pairs pairs.now ++ (k.Mark m.CloseBrace ∷ [])))) }
@@ -305,7 +296,6 @@ fn write_object(printer: &mut Printer, pairs: &Pairs) -> Result<(), AllocError>
 
 /// A key and its value.
 #[cycle(print)]
-#[tactic(auto, using(crate::proofs::Writing::all_written_append))]
 fn write_pair(printer: &mut Printer, pair: &Pair) -> Result<(), AllocError>
     ensures { OnOk result (printer.new ≡ all_written printer.old (parts.pair pair.now)) }
 {
@@ -316,7 +306,6 @@ fn write_pair(printer: &mut Printer, pair: &Pair) -> Result<(), AllocError>
 
 /// Keys and values with commas between.
 #[cycle(print)]
-#[tactic(auto, using(crate::proofs::Writing::all_written_append))]
 fn write_pairs(printer: &mut Printer, pairs: &Pairs) -> Result<(), AllocError>
     ensures { OnOk result (printer.new ≡ all_written printer.old (parts.pairs pairs.now)) }
 {

@@ -14,7 +14,7 @@ use sqlite_items::Boxed;
 /// Whether the first token of the expression is `{` or `function`. It goes down the left side of
 /// the tree, once for a statement.
 #[cycle(first)]
-#[tactic(auto, using(crate::proofs::Beginnings::begins_front, crate::proofs::Views::dot_kinds, crate::proofs::Views::index_kinds, crate::proofs::Views::call_kinds, crate::proofs::Views::postfix_kinds, crate::proofs::Views::binary_kinds, crate::proofs::Views::and_kinds, crate::proofs::Views::or_kinds, crate::proofs::Views::comma_kinds, crate::proofs::Views::cond_kinds, crate::proofs::Views::assign_kinds))]
+#[tactic(auto, using(crate::proofs::Beginnings::first_parts))]
 pub fn begins_as_another(expr: &Expr) -> bool
     ensures { result ≡ printed.begins_as_another (parts.expr expr.now true) }
 {
@@ -48,7 +48,7 @@ pub fn begins_as_another(expr: &Expr) -> bool
 
 /// The same of an operand, which begins with `(` where it is in parentheses.
 #[cycle(first)]
-#[tactic(auto, using(crate::proofs::Beginnings::begins_front, crate::proofs::Beginnings::begins_operand))]
+#[tactic(auto, using(crate::proofs::Beginnings::begins_operand))]
 fn begins(reason: bool, operand: &Boxed<Expr>, least: u8) -> bool
     ensures { result
         ≡ printed.begins_as_another (parts.operand_for reason true least operand.now) }

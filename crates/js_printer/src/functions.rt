@@ -1,5 +1,7 @@
 //! Functions (ES3 section 13).
 
+#![tactic(auto, using(crate::proofs::Writing::all_written_append))]
+
 ghost use Rattle.std.specs.Prelude.{◌≡◌, OnOk};
 ghost use Rattle.js_printer.specs.Parts as parts;
 ghost use Rattle.js_printer.specs.Written.{all_written};
@@ -12,7 +14,6 @@ use std::alloc::AllocError;
 
 /// A function, declared or in an expression.
 #[cycle(print)]
-#[tactic(auto, using(crate::proofs::Writing::all_written_append))]
 pub fn write_func(printer: &mut Printer, func: &Func) -> Result<(), AllocError>
     ensures { OnOk result (printer.new ≡ all_written printer.old (parts.func func.now)) }
 {

@@ -1,6 +1,8 @@
 //! Statements (ES3 section 12). Each function writes its part of the tree, and its contract says
 //! which tokens these are.
 
+#![tactic(auto, using(crate::proofs::Writing::all_written_append))]
+
 ghost use Rattle.std.specs.Prelude.{◌≡◌, ◌++◌, ◌∷◌, [], true, OnOk};
 ghost use Rattle.js_lexer.specs.declared.mark.Mark.TheVariants as m;
 ghost use Rattle.js_lexer.specs.declared.token.TokenKind.TheVariants as k;
@@ -22,7 +24,7 @@ use std::alloc::AllocError;
 
 /// A statement, or a function declaration (ES3 section 13).
 #[cycle(print)]
-#[tactic(auto, using(crate::proofs::Writing::all_written_append, crate::proofs::StatementViews::do_kinds, crate::proofs::StatementViews::while_kinds, crate::proofs::StatementViews::for_in_kinds, crate::proofs::StatementViews::switch_kinds))]
+#[tactic(auto, using(crate::proofs::StatementViews::statement_parts))]
 pub fn write_stmt(printer: &mut Printer, stmt: &Stmt) -> Result<(), AllocError>
     ensures { OnOk result (printer.new ≡ all_written printer.old (parts.stmt stmt.now)) }
 {
@@ -91,7 +93,6 @@ pub fn write_stmt(printer: &mut Printer, stmt: &Stmt) -> Result<(), AllocError>
 
 /// Statements one behind the other.
 #[cycle(print)]
-#[tactic(auto, using(crate::proofs::Writing::all_written_append))]
 pub fn write_stmts(printer: &mut Printer, stmts: &Stmts) -> Result<(), AllocError>
     ensures { OnOk result (printer.new ≡ all_written printer.old (parts.stmts stmts.now)) }
 {
@@ -103,7 +104,6 @@ pub fn write_stmts(printer: &mut Printer, stmts: &Stmts) -> Result<(), AllocErro
 
 /// Statements in braces: a block (ES3 12.1) or the body of a function.
 #[cycle(print)]
-#[tactic(auto, using(crate::proofs::Writing::all_written_append))]
 pub fn write_block(printer: &mut Printer, body: &Stmts) -> Result<(), AllocError>
     ensures { OnOk result (printer.new ≡ all_written printer.old
         (k.Mark m.OpenBrace ∷ (parts.stmts body.now ++ (k.Mark m.CloseBrace ∷ [])))) }
@@ -115,7 +115,6 @@ pub fn write_block(printer: &mut Printer, body: &Stmts) -> Result<(), AllocError
 
 /// A `var` statement (ES3 12.2).
 #[cycle(print)]
-#[tactic(auto, using(crate::proofs::Writing::all_written_append))]
 fn write_variables(printer: &mut Printer, items: &VarItems) -> Result<(), AllocError>
     ensures { OnOk result (printer.new ≡ all_written printer.old
         (k.Word w.Var ∷ (parts.var_items items.now true ++ (k.Mark m.Semicolon ∷ [])))) }
@@ -128,7 +127,6 @@ fn write_variables(printer: &mut Printer, items: &VarItems) -> Result<(), AllocE
 /// An expression statement (ES3 12.4), in parentheses where it would begin as a block or a
 /// declaration does.
 #[cycle(print)]
-#[tactic(auto, using(crate::proofs::Writing::all_written_append))]
 fn write_expression(printer: &mut Printer, expr: &Expr) -> Result<(), AllocError>
     ensures { OnOk result (printer.new
         ≡ all_written printer.old (printed.expression_statement (parts.expr expr.now true))) }
@@ -139,7 +137,6 @@ fn write_expression(printer: &mut Printer, expr: &Expr) -> Result<(), AllocError
 
 /// An expression, in parentheses where they are wanted.
 #[cycle(print)]
-#[tactic(auto, using(crate::proofs::Writing::all_written_append))]
 fn write_enclosed_if(printer: &mut Printer, wanted: bool, expr: &Expr) -> Result<(), AllocError>
     ensures { OnOk result (printer.new
         ≡ all_written printer.old (printed.enclosed_if wanted (parts.expr expr.now true))) }
@@ -153,7 +150,6 @@ fn write_enclosed_if(printer: &mut Printer, wanted: bool, expr: &Expr) -> Result
 
 /// A word and an expression in parentheses: how an `if`, a `while` and a `switch` begin.
 #[cycle(print)]
-#[tactic(auto, using(crate::proofs::Writing::all_written_append))]
 fn write_header(printer: &mut Printer, word: Word, expr: &Expr) -> Result<(), AllocError>
     ensures { OnOk result (printer.new
         ≡ all_written printer.old (k.Word word ∷ printed.enclosed (parts.expr expr.now true))) }
@@ -164,7 +160,6 @@ fn write_header(printer: &mut Printer, word: Word, expr: &Expr) -> Result<(), Al
 
 /// A statement behind a word.
 #[cycle(print)]
-#[tactic(auto, using(crate::proofs::Writing::all_written_append))]
 fn write_behind(printer: &mut Printer, word: Word, stmt: &Stmt) -> Result<(), AllocError>
     ensures { OnOk result
         (printer.new ≡ all_written printer.old (k.Word word ∷ parts.stmt stmt.now)) }
@@ -175,7 +170,6 @@ fn write_behind(printer: &mut Printer, word: Word, stmt: &Stmt) -> Result<(), Al
 
 /// An `else` or a `finally`, where there is one.
 #[cycle(print)]
-#[tactic(auto, using(crate::proofs::Writing::all_written_append))]
 fn write_maybe_behind(
     printer: &mut Printer,
     word: Word,
@@ -192,7 +186,6 @@ fn write_maybe_behind(
 
 /// An expression where there is one, and a mark.
 #[cycle(print)]
-#[tactic(auto, using(crate::proofs::Writing::all_written_append))]
 fn write_maybe_before(
     printer: &mut Printer,
     expr: &Option<Expr>,
@@ -213,7 +206,6 @@ fn write_maybe_before(
 
 /// A `throw` (ES3 12.13).
 #[cycle(print)]
-#[tactic(auto, using(crate::proofs::Writing::all_written_append))]
 fn write_throw(printer: &mut Printer, expr: &Expr) -> Result<(), AllocError>
     ensures { OnOk result (printer.new ≡ all_written printer.old
         (k.Word w.Throw ∷ (parts.expr expr.now true ++ (k.Mark m.Semicolon ∷ [])))) }
@@ -225,7 +217,6 @@ fn write_throw(printer: &mut Printer, expr: &Expr) -> Result<(), AllocError>
 
 /// How a `for` begins, up to its first semicolon (ES3 12.6.3).
 #[cycle(print)]
-#[tactic(auto, using(crate::proofs::Writing::all_written_append))]
 fn write_for_first(printer: &mut Printer, first: &ForInit) -> Result<(), AllocError>
     ensures { OnOk result (printer.new ≡ all_written printer.old
         (k.Word w.For ∷ (k.Mark m.OpenParenthesis
@@ -239,7 +230,6 @@ fn write_for_first(printer: &mut Printer, first: &ForInit) -> Result<(), AllocEr
 
 /// The first part of a `for` header (ES3 12.6.3). Outside brackets an `in` is in parentheses there.
 #[cycle(print)]
-#[tactic(auto, using(crate::proofs::Writing::all_written_append))]
 fn write_for_init(printer: &mut Printer, first: &ForInit) -> Result<(), AllocError>
     ensures { OnOk result (printer.new ≡ all_written printer.old (parts.for_init first.now)) }
 {
@@ -255,7 +245,6 @@ fn write_for_init(printer: &mut Printer, first: &ForInit) -> Result<(), AllocErr
 
 /// How a `for-in` begins, before its `in` (ES3 12.6.4).
 #[cycle(print)]
-#[tactic(auto, using(crate::proofs::Writing::all_written_append))]
 fn write_for_target(printer: &mut Printer, target: &ForTarget) -> Result<(), AllocError>
     ensures { OnOk result (printer.new ≡ all_written printer.old
         (k.Word w.For ∷ (k.Mark m.OpenParenthesis ∷ parts.for_target target.now))) }
@@ -267,7 +256,6 @@ fn write_for_target(printer: &mut Printer, target: &ForTarget) -> Result<(), All
 
 /// The `in` of a `for-in` and its object (ES3 12.6.4).
 #[cycle(print)]
-#[tactic(auto, using(crate::proofs::Writing::all_written_append))]
 fn write_for_object(printer: &mut Printer, object: &Expr) -> Result<(), AllocError>
     ensures { OnOk result (printer.new ≡ all_written printer.old
         (k.Word w.In ∷ (parts.expr object.now true ++ (k.Mark m.CloseParenthesis ∷ [])))) }
@@ -279,7 +267,6 @@ fn write_for_object(printer: &mut Printer, object: &Expr) -> Result<(), AllocErr
 
 /// What a `for-in` assigns to (ES3 12.6.4).
 #[cycle(print)]
-#[tactic(auto, using(crate::proofs::Writing::all_written_append))]
 fn write_target(printer: &mut Printer, target: &ForTarget) -> Result<(), AllocError>
     ensures { OnOk result (printer.new ≡ all_written printer.old (parts.for_target target.now)) }
 {
@@ -294,7 +281,6 @@ fn write_target(printer: &mut Printer, target: &ForTarget) -> Result<(), AllocEr
 
 /// A declarator of a `var` list (ES3 12.2).
 #[cycle(print)]
-#[tactic(auto, using(crate::proofs::Writing::all_written_append))]
 fn write_var_item(printer: &mut Printer, item: &VarItem, with_in: bool) -> Result<(), AllocError>
     ensures { OnOk result
         (printer.new ≡ all_written printer.old (parts.var_item item.now with_in)) }
@@ -305,7 +291,6 @@ fn write_var_item(printer: &mut Printer, item: &VarItem, with_in: bool) -> Resul
 
 /// The value that a declarator begins with, where there is one (ES3 12.2).
 #[cycle(print)]
-#[tactic(auto, using(crate::proofs::Writing::all_written_append))]
 fn write_initialiser(
     printer: &mut Printer,
     value: &Option<Expr>,
@@ -325,7 +310,6 @@ fn write_initialiser(
 
 /// The declarators of a `var` list, with commas between (ES3 12.2).
 #[cycle(print)]
-#[tactic(auto, using(crate::proofs::Writing::all_written_append))]
 fn write_var_items(printer: &mut Printer, items: &VarItems, with_in: bool) -> Result<(), AllocError>
     ensures { OnOk result
         (printer.new ≡ all_written printer.old (parts.var_items items.now with_in)) }
@@ -341,7 +325,6 @@ fn write_var_items(printer: &mut Printer, items: &VarItems, with_in: bool) -> Re
 
 /// The clauses of a `switch` in their braces (ES3 12.11).
 #[cycle(print)]
-#[tactic(auto, using(crate::proofs::Writing::all_written_append))]
 fn write_clauses(printer: &mut Printer, cases: &Cases) -> Result<(), AllocError>
     ensures { OnOk result (printer.new ≡ all_written printer.old
         (k.Mark m.OpenBrace ∷ (parts.cases cases.now ++ (k.Mark m.CloseBrace ∷ [])))) }
@@ -353,7 +336,6 @@ fn write_clauses(printer: &mut Printer, cases: &Cases) -> Result<(), AllocError>
 
 /// A clause of a `switch` (ES3 12.11).
 #[cycle(print)]
-#[tactic(auto, using(crate::proofs::Writing::all_written_append))]
 fn write_case(printer: &mut Printer, case: &Case) -> Result<(), AllocError>
     ensures { OnOk result (printer.new ≡ all_written printer.old (parts.case case.now)) }
 {
@@ -365,7 +347,6 @@ fn write_case(printer: &mut Printer, case: &Case) -> Result<(), AllocError>
 
 /// A `case` with its test, or `default` (ES3 12.11).
 #[cycle(print)]
-#[tactic(auto, using(crate::proofs::Writing::all_written_append))]
 fn write_case_head(printer: &mut Printer, test: &Option<Expr>) -> Result<(), AllocError>
     ensures { OnOk result (printer.new ≡ all_written printer.old (parts.case_head test.now)) }
 {
@@ -380,7 +361,6 @@ fn write_case_head(printer: &mut Printer, test: &Option<Expr>) -> Result<(), All
 
 /// The clauses of a `switch` (ES3 12.11).
 #[cycle(print)]
-#[tactic(auto, using(crate::proofs::Writing::all_written_append))]
 fn write_cases(printer: &mut Printer, cases: &Cases) -> Result<(), AllocError>
     ensures { OnOk result (printer.new ≡ all_written printer.old (parts.cases cases.now)) }
 {
@@ -392,7 +372,6 @@ fn write_cases(printer: &mut Printer, cases: &Cases) -> Result<(), AllocError>
 
 /// A `catch` with its name, where there is one (ES3 12.14).
 #[cycle(print)]
-#[tactic(auto, using(crate::proofs::Writing::all_written_append))]
 fn write_handler(
     printer: &mut Printer,
     handler: &Option<(Units, Boxed<Stmt>)>,
