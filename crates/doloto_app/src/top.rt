@@ -14,7 +14,7 @@ ghost use Rattle.doloto_app.specs.Formats.{FormatEnds, HasScript};
 use crate::formatting::format_out;
 use crate::playing::play_out;
 use crate::status::Status;
-use crate::words::{Command, WordFault, command};
+use crate::words::{Command, WordFault, command_in};
 use dl_ports::{Sink, Store};
 use std::alloc::Global;
 
@@ -71,7 +71,7 @@ pub fn doloto_top<S: Store, K: Sink>(
         (K.faults out.old) (K.faults out.new) }
     ensures nothing_put { MayPut result (K.written out.old) (K.written out.new) }
 {
-    match command(words) {
+    match command_in(words) {
         None => Status::Words(WordFault::First),
         Some(Command::Play { site, page }) => play_out(alloc, site, page, store, out),
         Some(Command::Format { script }) => format_out(alloc, script, store, out),

@@ -59,7 +59,7 @@ fn play_command<'a>(words: &'a [String]) -> Option<Command<'a>>
 
 /// The command that words say.
 #[tactic(auto, using(crate::proofs::Counts::other_words))]
-pub fn command<'a>(words: &'a [String]) -> Option<Command<'a>>
+pub fn command_in<'a>(words: &'a [String]) -> Option<Command<'a>>
     ensures { option_map command result ≡ said words.now }
 {
     match words.len() {
