@@ -11,7 +11,7 @@ use Rattle.text_reader.proofs.Joined.{carried, there, other_way, skipped, skips}
 use Rattle.text_reader.proofs.Bytes.{chosen_parts, skip_sound, skip_again, first_differs, second_differs, run_sound, run_again}
 use Rattle.first_grammar.specs.First.{IsLetter, IsPlainCharacter, IsStatement, statement_text}
 use Rattle.first_grammar.specs.FirstReader.{letter, characters, out, call, statement, statements, is_plain}
-use Rattle.first_grammar.proofs.Bytes.{letter_sound, letter_again, plain_true, plain_is}
+use Rattle.first_grammar.proofs.Letters.{letter_sound, letter_again, plain_true, plain_is}
 
 -- ---- statements
 

@@ -1,4 +1,4 @@
-pub mod Bytes
+pub mod Letters
 pub mod Numbers
 pub mod Grammar
 pub mod Scripts

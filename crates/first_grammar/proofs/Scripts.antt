@@ -16,7 +16,7 @@ use Rattle.text_reader.proofs.Joined.{carried, skipped, skips, mapped, maps, the
 use Rattle.text_reader.proofs.Bytes.{chosen_parts, skip_sound, skip_again, first_differs, second_differs}
 use Rattle.first_grammar.specs.First.{IsLetter, IsFunctionNumber, IsBody, IsItem, statement_text, body_text, item_text}
 use Rattle.first_grammar.specs.FirstReader.{letter, number, statement, statements, stub, plain_body, body, function, function_item, statement_item, item, items}
-use Rattle.first_grammar.proofs.Bytes.{letter_sound, letter_again}
+use Rattle.first_grammar.proofs.Letters.{letter_sound, letter_again}
 use Rattle.first_grammar.proofs.Numbers.{number_sound, number_again}
 use Rattle.first_grammar.proofs.Grammar.{closed_text, statement_reads, statements_reads}
 
