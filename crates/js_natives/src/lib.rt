@@ -2,5 +2,7 @@
 #![tactic(auto)]
 
 mod answer;
+mod native;
 
 pub use answer::{Answer, ErrorKind};
+pub use native::Native;
