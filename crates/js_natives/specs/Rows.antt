@@ -1,23 +1,25 @@
 -- Runs of natives for the rows: on a small heap, with a list of what was asked.
 use Rattle.std.specs.Prelude.{ℕ, zero, suc, Bool, false, List, [], ◌∷◌, ◌++◌, length, replicate}
 use Rattle.std.specs.Prelude.{ℤ, pos, neg_ℤ, codes, Option, Some, None, option_map, unwrap_or}
-use Rattle.std.specs.Prelude.{slice_get, is_some, Result, Ok, Err, map}
+use Rattle.std.specs.Prelude.{Result, Ok, Err, map, sum}
 use Rattle.js_values.specs.declared.number.Num.{Num}
 use Rattle.js_values.specs.declared.number.Num.TheVariants as number
 use Rattle.js_values.specs.declared.reason.Reason.{Reason}
 use Rattle.js_values.specs.declared.value.Value.{Value}
 use Rattle.js_values.specs.declared.value.Value.TheVariants as value
-use Rattle.js_values.specs.Values.{number_of, text_of}
+use Rattle.js_values.specs.Numerals.{number_text}
+use Rattle.js_values.specs.Values.{number_of, text_of_bool}
 use Rattle.object_heap.specs.declared.built_in.BuiltIn.TheVariants as built
 use Rattle.object_heap.specs.declared.object.Class.{Class}
 use Rattle.object_heap.specs.declared.object.Class.TheVariants as class
-use Rattle.object_heap.specs.Arrays.{whole, no_attributes}
+use Rattle.object_heap.specs.Arrays.{whole, no_attributes, length_in}
 use Rattle.object_heap.specs.BuiltIns as built_ins
-use Rattle.object_heap.specs.Changes.{holding, hidden_and_fixed, made, deleted}
+use Rattle.object_heap.specs.Changes.{holding, hidden_and_fixed, hidden_only, made}
+use Rattle.object_heap.specs.Changes.{deleted}
 use Rattle.object_heap.specs.Get as heap_get
 use Rattle.object_heap.specs.Names.{Name, length_name, decimal}
 use Rattle.object_heap.specs.Objects.{Slot, Holds, Shares, Property, Object, Heap, own_of}
-use Rattle.object_heap.specs.Objects.{attributes_of, is_behind, properties_of, own_in}
+use Rattle.object_heap.specs.Objects.{attributes_of, is_behind, properties_of}
 use Rattle.object_heap.specs.Objects as objects
 use Rattle.object_heap.specs.Put as heap_put
 use Rattle.js_natives.specs.declared.answer.Answer.{Answer}
@@ -26,6 +28,8 @@ use Rattle.js_natives.specs.declared.answer.ErrorKind.TheVariants.{RangeError}
 use Rattle.js_natives.specs.declared.native.Native.{Native}
 use Rattle.js_natives.specs.Program.{Program, Done, Step, Text, Number, Get, Put, Listen, Make}
 use Rattle.js_natives.specs.Program.{ClassOf, Own, Behind, Write, Delete}
+use Rattle.js_natives.specs.declared.native.Native.TheVariants as native
+use Rattle.js_natives.specs.Indices.{indices}
 use Rattle.js_natives.specs.Natives.{program_of}
 
 -- ---- runs
@@ -52,11 +56,12 @@ behind asked ran = record ran { asked = asked ∷ ran.asked }
 
 -- an object is given the text `o` and its number, and that number; no function is called here
 abbrev pub given_text : Value → Name
-given_text v = unwrap_or (text_of v) (codes "o" ++ object_number v)
-  where
-    object_number : Value → Name
-    object_number (value.Object o) = decimal o.0
-    object_number v = []
+given_text value.Undefined = codes "undefined"
+given_text value.Null = codes "null"
+given_text (value.Bool b) = text_of_bool b
+given_text (value.Num n) = number_text 10 n
+given_text (value.Str s) = s
+given_text (value.Object o) = codes "o" ++ decimal o.0
 
 abbrev pub given_number : Value → Result Num Reason
 given_number (value.Object o) = Ok (number.Whole (pos o.0))
@@ -95,3 +100,132 @@ run (Own o name k) heap = run (k (attributes_of heap o name)) heap
 run (Behind o target k) heap = run (k (is_behind heap o target)) heap
 run (Write o name v p) heap = run p (heap_put.written heap o name v)
 run (Delete o name p) heap = run p (deleted o name heap)
+
+abbrev pub ran : Native → Value → List Value → Heap → Ran
+ran n this args heap = run (program_of n this args) heap
+
+abbrev pub answered : Native → Value → List Value → Heap → Answer
+answered n this args heap = (ran n this args heap).answer
+
+-- what was asked of the machine, in order
+abbrev pub asks : Native → Value → List Value → Heap → List Asked
+asks n this args heap = (ran n this args heap).asked
+
+abbrev pub left : Native → Value → List Value → Heap → Heap
+left n this args heap = (ran n this args heap).heap
+
+-- how many steps were taken
+abbrev pub one_if_step : Asked → ℕ
+one_if_step AStep = 1
+one_if_step (AText v) = 0
+one_if_step (ANumber v) = 0
+one_if_step (AGet o name) = 0
+one_if_step (APut o name v) = 0
+one_if_step (AListener event f) = 0
+
+abbrev pub steps : Native → Value → List Value → Heap → ℕ
+steps n this args heap = sum (map one_if_step (asks n this args heap))
+
+-- ---- values and answers
+
+abbrev pub minus : ℕ → Value
+minus n = value.Num (number.Whole (neg_ℤ (pos n)))
+
+abbrev pub nan : Value
+nan = value.Num number.NaN
+
+abbrev pub o : ℕ → Value
+o number = value.Object (record { 0 = number })
+
+abbrev pub gives : Value → Answer
+gives v = answer.Value v
+
+abbrev pub gives_text : Name → Answer
+gives_text s = answer.Value (value.Str s)
+
+-- a value of each kind that would have to be put into an object
+abbrev pub primitives : List Value
+primitives = value.Bool false ∷ whole 5 ∷ value.Str (codes "a") ∷ []
+
+-- ---- heaps. The objects below 13 are those that natives name, here without properties: the
+-- prototypes, Math, `host` and the global object. Those of a row begin with 13.
+
+abbrev pub plain_object : Object
+plain_object = record { class = class.Plain; prototype = None; properties = [] }
+
+abbrev pub few : Heap
+few = replicate 13 plain_object
+
+abbrev pub elements_from : ℕ → List (Option Value) → List Property
+elements_from k [] = []
+elements_from k (None ∷ vs) = elements_from (suc k) vs
+elements_from k (Some v ∷ vs) =
+    holding (decimal k) v no_attributes ∷ elements_from (suc k) vs
+
+-- an object with these elements, of which some may be missing, and their count as its length
+abbrev pub list_object : Class → List (Option Value) → Object
+list_object class vs = record {
+  class = class;
+  prototype = Some (built_ins.number_of built.ArrayPrototype);
+  properties = holding length_name (whole (length vs)) hidden_and_fixed ∷ elements_from 0 vs;
+}
+
+abbrev pub array_of : List (Option Value) → Object
+array_of vs = list_object class.Array vs
+
+-- the array is 13
+abbrev pub one_array : List (Option Value) → Heap
+one_array vs = few ++ array_of vs ∷ []
+
+-- the object is 13, and has these properties
+abbrev pub one_object : Class → List Property → Heap
+one_object class properties =
+    few ++ record { class = class; prototype = None; properties = properties } ∷ []
+
+-- 13 has a and a hidden b, and stands behind 14, which has c
+abbrev pub two_behind : Heap
+two_behind =
+    one_object class.Plain (holding (codes "a") (whole 1) no_attributes
+    ∷ holding (codes "b") (whole 2) hidden_only ∷ [])
+    ++ record {
+      class = class.Plain;
+      prototype = Some 13;
+      properties = holding (codes "c") (whole 3) no_attributes ∷ [];
+    } ∷ []
+
+-- ---- what is left
+
+-- the value of an own property
+abbrev pub own_value : Heap → ℕ → Name → Option Value
+own_value heap o name = option_map (λ p. given_value (Some p.slot)) (own_of heap o name)
+
+-- the elements of an object, as many as its length
+abbrev pub elements_of : Heap → ℕ → List (Option Value)
+elements_of heap o =
+    map (λ k. own_value heap o (decimal k)) (indices 0 (length_in (properties_of heap o)))
+
+-- whole numbers as elements
+abbrev pub wholes : List ℕ → List (Option Value)
+wholes ns = map (λ n. Some (whole n)) ns
+
+-- a native called on the array of these elements: its answer, the array's elements then, and the
+-- steps
+abbrev pub on_array : Native → List Value → List (Option Value) → Answer × List (Option Value) × ℕ
+on_array n args vs =
+    (answered n (o 13) args (one_array vs), elements_of (left n (o 13) args (one_array vs)) 13,
+    steps n (o 13) args (one_array vs))
+
+-- the elements of the array that it made
+abbrev pub made_by : Native → List Value → List (Option Value) → List (Option Value)
+made_by n args vs = elements_of (left n (o 13) args (one_array vs)) 14
+
+-- the texts of the array that `split` made
+abbrev pub split_of : Name → List Value → List (Option Value)
+split_of s args = elements_of (left native.Split (value.Str s) args few) 13
+
+abbrev pub texts : List Name → List (Option Value)
+texts ss = map (λ s. Some (value.Str s)) ss
+
+-- the answers of a native to each of these as its `this`
+abbrev pub answers_to : Native → List Value → List Answer
+answers_to n vs = map (λ v. answered n v [] few) vs

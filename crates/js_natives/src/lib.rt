@@ -3,6 +3,11 @@
 
 mod answer;
 mod native;
+mod object_rows;
 
 pub use answer::{Answer, ErrorKind};
 pub use native::Native;
+pub use object_rows::{
+    function_texts, object_texts, objects_of_values, own_properties, prototypes_of_values,
+    visible_properties,
+};
