@@ -182,6 +182,24 @@ abbrev pub one_object : Class → List Property → Heap
 one_object class properties =
     few ++ record { class = class; prototype = None; properties = properties } ∷ []
 
+abbrev pub array_behind : Object → Object
+array_behind object = record object { prototype = Some 13 }
+
+-- the arrays are 13 and 14
+abbrev pub two_arrays : List (Option Value) → List (Option Value) → Heap
+two_arrays vs us = one_array vs ++ array_of us ∷ []
+
+-- the array is 14, and the object behind it, 13, has 7 at the index 1
+abbrev pub array_over : List (Option Value) → Heap
+array_over vs =
+    one_object class.Plain (holding (codes "1") (whole 7) no_attributes ∷ [])
+    ++ array_behind (array_of vs) ∷ []
+
+-- an array without elements whose length is the greatest
+abbrev pub full_array : Heap
+full_array =
+    one_object class.Array (holding length_name (whole 4294967295) hidden_and_fixed ∷ [])
+
 -- 13 has a and a hidden b, and stands behind 14, which has c
 abbrev pub two_behind : Heap
 two_behind =
