@@ -9,6 +9,7 @@ use Rattle.js_values.specs.declared.value.Value.{Value}
 use Rattle.js_values.specs.declared.value.Value.TheVariants as value
 use Rattle.js_values.specs.Numerals.{number_text}
 use Rattle.js_values.specs.Values.{number_of, text_of_bool}
+use Rattle.object_heap.specs.declared.built_in.BuiltIn.{BuiltIn}
 use Rattle.object_heap.specs.declared.built_in.BuiltIn.TheVariants as built
 use Rattle.object_heap.specs.declared.object.Class.{Class}
 use Rattle.object_heap.specs.declared.object.Class.TheVariants as class
@@ -30,7 +31,7 @@ use Rattle.js_natives.specs.Program.{Program, Done, Step, Text, Number, Get, Put
 use Rattle.js_natives.specs.Program.{ClassOf, Own, Behind, Write, Delete}
 use Rattle.js_natives.specs.declared.native.Native.TheVariants as native
 use Rattle.js_natives.specs.Indices.{indices}
-use Rattle.js_natives.specs.Natives.{program_of}
+use Rattle.js_natives.specs.Natives.{program_of, calls_of}
 
 -- ---- runs
 
@@ -247,3 +248,24 @@ texts ss = map (λ s. Some (value.Str s)) ss
 -- the answers of a native to each of these as its `this`
 abbrev pub answers_to : Native → List Value → List Answer
 answers_to n vs = map (λ v. answered n v [] few) vs
+
+-- the answer of a native of a text, and of one of a number
+abbrev pub of_text : Native → Name → List Value → Answer
+of_text n s args = answered n (value.Str s) args few
+
+abbrev pub of_number : Native → ℕ → List Value → Answer
+of_number n size args = answered n (whole size) args few
+
+-- the answers of `parseInt`
+abbrev pub parsed : Name → Answer
+parsed s = answered native.ParseInt (o 12) (value.Str s ∷ []) few
+
+abbrev pub parsed_in : Name → Value → Answer
+parsed_in s radix = answered native.ParseInt (o 12) (value.Str s ∷ radix ∷ []) few
+
+-- which native a function of the start is
+abbrev pub called_as : BuiltIn → Option Native
+called_as b = (calls_of b).called
+
+abbrev pub constructed_as : BuiltIn → Option Native
+constructed_as b = (calls_of b).constructed

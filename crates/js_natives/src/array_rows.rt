@@ -12,10 +12,12 @@ ghost use Rattle.object_heap.specs.Objects.{class_of, properties_of, prototype_o
 ghost use Rattle.js_natives.specs.declared.answer.Answer.TheVariants as answer;
 ghost use Rattle.js_natives.specs.declared.answer.ErrorKind.TheVariants as kind;
 ghost use Rattle.js_natives.specs.declared.native.Native.TheVariants as native;
+ghost use Rattle.js_natives.specs.Arrays.{pushed};
+ghost use Rattle.js_natives.specs.Asks.{ended};
 ghost use Rattle.js_natives.specs.Rows.{AGet, ANumber, APut, AStep, AText, answered, answers_to};
 ghost use Rattle.js_natives.specs.Rows.{array_of, array_over, asks, elements_of, few, full_array};
 ghost use Rattle.js_natives.specs.Rows.{gives, gives_text, left, made_by, minus, nan, o, on_array};
-ghost use Rattle.js_natives.specs.Rows.{one_array, one_object, own_value, primitives, steps};
+ghost use Rattle.js_natives.specs.Rows.{one_array, one_object, own_value, primitives, run, steps};
 ghost use Rattle.js_natives.specs.Rows.{two_arrays, wholes};
 
 /// `Array(..)` and `new Array(..)`.
@@ -146,10 +148,9 @@ pub fn pushed_elements()
     ensures order { asks native.Push (o 13) (o 5 ∷ o 6 ∷ []) (one_array (wholes (1 ∷ [])))
         ≡ AGet 13 length_name ∷ ANumber (whole 1) ∷ APut 13 (codes "1") (o 5)
         ∷ APut 13 (codes "2") (o 6) ∷ APut 13 length_name (whole 3) ∷ [] }
-    ensures too_many { answered native.Push (o 13) (whole 7 ∷ []) full_array
+    ensures greatest { answered native.Push (o 13) [] full_array ≡ gives (whole 4294967295) }
+    ensures too_many { (run (ended (pushed [] 13 4294967296)) full_array).answer
         ≡ answer.Throw kind.RangeError }
-    ensures past_the_indices { own_value (left native.Push (o 13) (whole 7 ∷ []) full_array) 13
-        (codes "4294967295") ≡ Some (whole 7) }
     ensures of_no_array { own_value (left native.Push (o 13) (whole 7 ∷ [])
         (one_object class.Plain [])) 13 length_name ≡ Some (whole 1) }
     ensures of_primitives { answers_to native.Push primitives
