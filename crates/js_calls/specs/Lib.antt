@@ -3,3 +3,4 @@ pub mod FunctionObjects
 pub mod Entry
 pub mod Construct
 pub mod Apply
+pub mod Rows
