@@ -113,14 +113,19 @@ copies (k ∷ ks) o start made p =
     step (has o (decimal (k + start)) (λ is_there.
     copied is_there o (k + start) made k (copies ks o start made p)))
 
--- steps 2 to 20
+-- steps 9 to 20
+abbrev pub copied_part : ℕ → ℕ → ℕ → ℕ → Asks Answer
+copied_part o made start end = do
+  copies (indices 0 (end - start)) o start made
+  with_length made (end - start)
+
+-- steps 2 to 8
 abbrev pub sliced : ℕ → ℕ → Value → Value → Asks Answer
 sliced o made from to = do
   length ← length_of o
   n ← integer from
   end ← end_of to length
-  copies (indices 0 (end - counted n length)) o (counted n length) made
-  with_length made (end - counted n length)
+  copied_part o made (counted n length) end
 
 abbrev pub slice : Value → List Value → Asks Answer
 slice this args = do
