@@ -7,3 +7,14 @@ ghost use Rattle.js_natives.specs.Laws as law;
 pub fn natives_avoid()
     ensures { law.NativesAvoid }
 {}
+
+/// A native takes a step for each index of its loops over indices, and no others.
+pub fn steps_are_of_indices()
+    ensures { law.StepsAreOfIndices }
+{}
+
+/// A text of more than 2^26 units stops the run where it would be made, and any other is made.
+pub fn long_texts_stop()
+    ensures long { law.LongTextsStop }
+    ensures others { law.OtherTextsAreMade }
+{}
