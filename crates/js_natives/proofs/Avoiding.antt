@@ -1,6 +1,6 @@
 -- A native passes no object on that it was not given.
 use Rattle.std.proofs.Common.{◌≡◌, ℕ, zero, suc, ◌+◌, ◌-◌, Bool, true, false, List, [], ◌∷◌, refl}
-use Rattle.std.specs.Prelude.{◌==◌, ◌++◌, ◌/◌, map, min, is_some, if◌then◌else◌, drop, length, ℤ, pos, negsuc, Option, Some, None, Result, Ok, Err, nat_lt, nat_le, ◌&&◌, ◌||◌}
+use Rattle.std.specs.Prelude.{◌==◌, ◌++◌, ◌/◌, map, min, is_some, if◌then◌else◌, drop, length, ℤ, pos, negsuc, Result, Ok, Err, nat_lt, nat_le, ◌&&◌}
 use Rattle.std.specs.List.{flat_map}
 use Rattle.js_values.specs.declared.number.Num.{Num}
 use Rattle.js_values.specs.declared.number.Num.TheVariants as number
@@ -340,16 +340,16 @@ module _ (f : ℕ) (g : (global == f) ≡ false) where
   shift : Row moves.shift
   shift this args e h = an_object this _ e (λ o i v j. (j, λ n. shifted o (uint32_of n)))
 
-  counted_end : (v : Value) (n : ℕ) (k : ℕ → Program) → Free v → ((m : ℕ) → Avoids f (k m)) → Avoids f (moves.counted_end v n k)
-  counted_end v n k e h = (e, λ a. h (moves.counted (convert.integer_of a) n))
+  converted_end : (v : Value) (n : ℕ) (k : ℕ → Program) → Free v → ((m : ℕ) → Avoids f (k m)) → Avoids f (moves.converted_end v n k)
+  converted_end v n k e h = (e, λ a. h (convert.from_either_end (convert.integer_of a) n))
 
   end_of : (v : Value) (n : ℕ) (k : ℕ → Program) → Free v → ((m : ℕ) → Avoids f (k m)) → Avoids f (moves.end_of v n k)
   end_of value.Undefined n k e h = h n
-  end_of value.Null n k e h = counted_end value.Null n k e h
-  end_of (value.Bool b) n k e h = counted_end (value.Bool b) n k e h
-  end_of (value.Num a) n k e h = counted_end (value.Num a) n k e h
-  end_of (value.Str s) n k e h = counted_end (value.Str s) n k e h
-  end_of (value.Object o) n k e h = counted_end (value.Object o) n k e h
+  end_of value.Null n k e h = converted_end value.Null n k e h
+  end_of (value.Bool b) n k e h = converted_end (value.Bool b) n k e h
+  end_of (value.Num a) n k e h = converted_end (value.Num a) n k e h
+  end_of (value.Str s) n k e h = converted_end (value.Str s) n k e h
+  end_of (value.Object o) n k e h = converted_end (value.Object o) n k e h
 
   copies : (ks : List ℕ) (o start made : ℕ) (p : Program) → Avoids f p → Avoids f (moves.copies ks o start made p)
   copies [] o start made p h = h
@@ -359,7 +359,7 @@ module _ (f : ℕ) (g : (global == f) ≡ false) where
   copied_part o made start end e = copies (indices 0 (end - start)) o start made (arrays.with_length made (end - start) Done) (refl, e)
 
   sliced : (o made : ℕ) (from to : Value) → (made == f) ≡ false → Free from → Free to → Avoids f (moves.sliced o made from to Done)
-  sliced o made from to e i j = λ v l. (l, λ n. (i, λ start. end_of to (uint32_of n) (λ end. moves.copied_part o made (moves.counted (convert.integer_of start) (uint32_of n)) end Done) j (λ end. copied_part o made (moves.counted (convert.integer_of start) (uint32_of n)) end e)))
+  sliced o made from to e i j = λ v l. (l, λ n. (i, λ start. end_of to (uint32_of n) (λ end. moves.copied_part o made (convert.from_either_end (convert.integer_of start) (uint32_of n)) end Done) j (λ end. copied_part o made (convert.from_either_end (convert.integer_of start) (uint32_of n)) end e)))
 
   slice : Row moves.slice
   slice this args e h = an_object this _ e (λ o i made j. sliced o made (argument args 0) (argument args 1) j (first args h) (second args h))
@@ -372,14 +372,14 @@ module _ (f : ℕ) (g : (global == f) ≡ false) where
   deletes [] o p h = h
   deletes (x ∷ ks) o p h = deletes ks o p h
 
-  closed_up : (o n start gone come : ℕ) (p : Program) → Avoids f p → Avoids f (moves.closed_up o n start gone come p)
+  closed_up : (o n start gone come : ℕ) (p : Program) → Avoids f p → Avoids f (moves.closed_or_opened o n start gone come p)
   closed_up o n start gone come p h = either (nat_lt come gone) _ _ (moved (indices start (n - gone - start)) o gone come (moves.deletes (downward (n - gone + come) (gone - come)) o p) (deletes (downward (n - gone + come) (gone - come)) o p h)) (either (nat_lt gone come) _ _ (moved (downward start (n - gone - start)) o gone come p h) h)
 
   spliced : (o made n start gone : ℕ) (items : List Value) → (made == f) ≡ false → AllFree f items → Avoids f (moves.spliced o made n start gone items Done)
   spliced o made n start gone items e h =
       let last : Program = arrays.put_length o (n - gone + convert.count_of items) (asks.object_answer made Done) in
       let put : Program = moves.put_elements items o start last in
-      let closed : Program = moves.closed_up o n start gone (convert.count_of items) put in
+      let closed : Program = moves.closed_or_opened o n start gone (convert.count_of items) put in
       copies (indices 0 gone) o start made (asks.write made length_name (whole gone) closed) (refl, closed_up o n start gone (convert.count_of items) put (put_elements items o start last h (refl, e)))
 
   behind_two : (args : List Value) → AllFree f args → AllFree f (drop 2 args)
@@ -388,7 +388,7 @@ module _ (f : ℕ) (g : (global == f) ≡ false) where
   behind_two (v ∷ (w ∷ vs)) h = h.1.1
 
   splice : Row moves.splice
-  splice this args e h = an_object this _ e (λ o i made j v l. (l, λ n. (first args h, λ start. (second args h, λ count. spliced o made (uint32_of n) (moves.counted (convert.integer_of start) (uint32_of n)) (min (moves.at_least_zero (convert.integer_of count)) (uint32_of n - moves.counted (convert.integer_of start) (uint32_of n))) (drop 2 args) j (behind_two args h)))))
+  splice this args e h = an_object this _ e (λ o i made j v l. (l, λ n. (first args h, λ start. (second args h, λ count. spliced o made (uint32_of n) (convert.from_either_end (convert.integer_of start) (uint32_of n)) (min (moves.at_least_zero (convert.integer_of count)) (uint32_of n - convert.from_either_end (convert.integer_of start) (uint32_of n))) (drop 2 args) j (behind_two args h)))))
 
   unshifted : (o n : ℕ) (items : List Value) → AllFree f items → Avoids f (moves.unshifted o n items Done)
   unshifted o n items h =

@@ -1,6 +1,6 @@
 -- How many steps natives take.
-use Rattle.std.proofs.Common.{◌≡◌, ℕ, zero, suc, ◌+◌, ◌-◌, ◌≤◌, Bool, true, false, List, [], ◌∷◌, refl, ap, subst, sym, arith}
-use Rattle.std.specs.Prelude.{◌==◌, ◌++◌, ◌/◌, ◌&&◌, map, min, is_some, if◌then◌else◌, drop, take, length, ℤ, pos, negsuc, Option, Some, None, Result, Ok, Err, nat_lt, nat_le}
+use Rattle.std.proofs.Common.{◌≡◌, ℕ, zero, suc, ◌+◌, ◌-◌, ◌≤◌, Bool, true, false, List, [], ◌∷◌, subst, arith}
+use Rattle.std.specs.Prelude.{◌==◌, ◌++◌, ◌/◌, ◌&&◌, map, is_some, if◌then◌else◌, take, length, ℤ, pos, negsuc, Result, Ok, Err, nat_lt, nat_le}
 use Rattle.std.specs.List.{flat_map}
 use Rattle.js_values.specs.declared.number.Num.{Num}
 use Rattle.js_values.specs.declared.number.Num.TheVariants as number
@@ -9,7 +9,6 @@ use Rattle.js_values.specs.declared.value.Value.{Value}
 use Rattle.js_values.specs.declared.value.Value.TheVariants as value
 use Rattle.js_values.specs.Integers.{uint32_of, int32_of}
 use Rattle.js_values.specs.NumberTexts.{behind, is_blank, is_negative, without_sign}
-use Rattle.object_heap.specs.declared.object.Attrs.{Attrs}
 use Rattle.object_heap.specs.declared.built_in.BuiltIn.{BuiltIn}
 use Rattle.object_heap.specs.declared.built_in.BuiltIn.TheVariants as built
 use Rattle.object_heap.specs.declared.object.Class.{Class}
@@ -490,7 +489,7 @@ either : (n : ℕ) (b : Bool) (p q : Program) → StepsAtMost p n → StepsAtMos
 either n true p q h i = h
 either n false p q h i = i
 
-closed_up : (o n start gone come : ℕ) (p : Program) → StepsAtMost p 0 → StepsAtMost (moves.closed_up o n start gone come p) ((n - gone - start) + (gone - come))
+closed_up : (o n start gone come : ℕ) (p : Program) → StepsAtMost p 0 → StepsAtMost (moves.closed_or_opened o n start gone come p) ((n - gone - start) + (gone - come))
 closed_up o n start gone come p h =
     let first : List ℕ = indices start (n - gone - start) in
     let last : List ℕ = downward (n - gone + come) (gone - come) in
@@ -506,7 +505,7 @@ spliced : (o made n start gone : ℕ) (items : List Value) → StepsAtMost (asks
 spliced o made n start gone items =
     let last : Program = arrays.put_length o (n - gone + convert.count_of items) (asks.object_answer made Done) in
     let put : Program = moves.put_elements items o start last in
-    let closed : Program = moves.closed_up o n start gone (convert.count_of items) put in
+    let closed : Program = moves.closed_or_opened o n start gone (convert.count_of items) put in
     let behind : ℕ = (n - gone - start) + (gone - convert.count_of items) in
     let p : Program = asks.write made length_name (whole gone) closed in
     at (moves.copies (indices 0 gone) o start made p) (more (indices 0 gone) behind) (gone + (n - gone - start) + (gone - convert.count_of items)) (let e = more_indices 0 gone behind in omega (arith, e))

@@ -95,10 +95,11 @@ pub record StepsAreOfIndices : Type 0 where
       → StepsAtMost (joined o (suc n) between k) n
   pub shift : (o n : ℕ) → StepsAtMost (ended (shifted o (suc n))) n
   pub reverse : (o n : ℕ) → StepsAtMost (ended (reversed (indices 0 (n / 2)) o n)) (n / 2)
-  pub slice : (o made start end : ℕ) → StepsAtMost (ended (copied_part o made start end)) (end - start)
+  pub slice : (o made start end : ℕ)
+      → StepsAtMost (ended (copied_part o made start end)) (end - start)
   pub splice : (o made n start gone : ℕ) (items : List Value)
       → StepsAtMost (ended (spliced o made n start gone items))
-        (gone + (n - gone - start) + (gone - count_of items))
+      (gone + (n - gone - start) + (gone - count_of items))
   pub unshift : (o n : ℕ) (items : List Value) → StepsAtMost (ended (unshifted o n items)) n
   -- for each array among the items of `concat`
   pub concat : (e made n count m : ℕ) (k : ℕ → Program) → ((c : ℕ) → StepsAtMost (k c) m)
