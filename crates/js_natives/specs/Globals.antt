@@ -83,24 +83,16 @@ is_nan this args = truth_answer (is_not_a_number (number_at args 0))
 -- ---- host.on (type, f): the type has been made a text
 
 abbrev pub listening : Class → Name → ℕ → Asks Answer
-listening class.Plain event o = throw TypeError
 listening class.Function event o = do
   listen event o
   undefined_answer
-listening class.Array event o = throw TypeError
-listening class.Arguments event o = throw TypeError
-listening class.Error event o = throw TypeError
-listening class.Math event o = throw TypeError
+listening c event o = throw TypeError
 
 abbrev pub listening_by : Value → Name → Asks Answer
-listening_by value.Undefined event = throw TypeError
-listening_by value.Null event = throw TypeError
-listening_by (value.Bool b) event = throw TypeError
-listening_by (value.Num n) event = throw TypeError
-listening_by (value.Str s) event = throw TypeError
 listening_by (value.Object o) event = do
   c ← class_of o.0
   listening c event o.0
+listening_by v event = throw TypeError
 
 abbrev pub on : Value → List Value → Asks Answer
 on this args = listening_by (argument args 1) (text_at args 0)

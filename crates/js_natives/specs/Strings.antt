@@ -124,14 +124,10 @@ last_index_of this args =
 abbrev pub between : ℕ → ℕ → Name → Name
 between start end s = take (end - start) (drop start s)
 
--- step 4: an end that is undefined is that of the text
+-- step 4: an end that is undefined is that of the text; any other has been made a number
 abbrev pub end_at : (ℤ → ℕ → ℕ) → Value → ℕ → ℕ
-end_at counted value.Undefined length = length
-end_at counted value.Null length = length
-end_at counted (value.Bool b) length = length
 end_at counted (value.Num n) length = counted (integer_of n) length
-end_at counted (value.Str s) length = length
-end_at counted (value.Object o) length = length
+end_at counted v length = length
 
 -- steps 5 to 8
 abbrev pub sliced_text : Name → ℤ → Value → Name
@@ -164,23 +160,15 @@ abbrev pub pieces_of : Name → Name → List Name
 pieces_of s [] = singles s
 pieces_of s (u ∷ us) = cut_pieces (u ∷ us) 0 [] s
 
--- step 8: all in one piece where the separator is undefined
+-- step 8: all in one piece where the separator is undefined; any other has been made a text
 abbrev pub split_text : Name → Value → List Name
-split_text s value.Undefined = s ∷ []
-split_text s value.Null = s ∷ []
-split_text s (value.Bool b) = s ∷ []
-split_text s (value.Num n) = s ∷ []
 split_text s (value.Str between) = pieces_of s between
-split_text s (value.Object o) = s ∷ []
+split_text s v = s ∷ []
 
--- step 3
+-- step 3, where the limit has been converted unless it is undefined
 abbrev pub limit_of : Value → ℕ
-limit_of value.Undefined = 2 ^ 32 - 1
-limit_of value.Null = 2 ^ 32 - 1
-limit_of (value.Bool b) = 2 ^ 32 - 1
 limit_of (value.Num n) = uint32_of n
-limit_of (value.Str s) = 2 ^ 32 - 1
-limit_of (value.Object o) = 2 ^ 32 - 1
+limit_of v = 2 ^ 32 - 1
 
 -- steps 2, 7, 17, 18 and 29: an array of the first of them
 abbrev pub array_of_texts : List Name → Asks Answer
