@@ -6,8 +6,10 @@
 //! of a function are the machine's.
 #![tactic(auto)]
 
+mod laws;
 mod rows;
 
+pub use laws::{entries_hold_nothing, entries_keep_order};
 pub use rows::{
     applied_lists, argument_objects, declared_names, entries, function_objects, new_objects,
     this_values,

@@ -26,7 +26,8 @@ abbrev pub string : Value → List Value → Asks Answer
 string this [] = text_answer []
 string this (v ∷ vs) = text_answer (text_in v)
 
--- a text would be put into an object
+-- a primitive would be put into an object; so it is with new Number and new Boolean (15.7.2.1,
+-- 15.6.2.1)
 abbrev pub new_wrapper : Value → List Value → Asks Answer
 new_wrapper this args = stop Wrapper
 
@@ -74,7 +75,7 @@ string_concat this args = do
 
 -- ---- String.prototype.indexOf (searchString, position) (15.5.4.7)
 
--- step 7, where k is the position of the text that is left
+-- step 7: the first place of a text in what is left of another from position k on
 abbrev pub first_place : ℕ → Name → Name → Option ℕ
 first_place k sought [] = if starts_with nat_eq [] sought then Some k else None
 first_place k sought (u ∷ us) =
@@ -105,7 +106,7 @@ abbrev pub later : Option ℕ → Option ℕ → Option ℕ
 later None earlier = earlier
 later (Some k) earlier = Some k
 
--- step 8, where k is the position of the text that is left, and the place is not behind `last`
+-- step 8: the last place that is not behind `last` in what is left from position k on
 abbrev pub last_place : ℕ → ℕ → Name → Name → Option ℕ
 last_place k last sought [] =
     if nat_le k last && starts_with nat_eq [] sought then Some k else None
