@@ -13,24 +13,20 @@ use Rattle.js_natives.specs.This.{this_object, this_truth, this_number, this_tex
 
 -- ---- how each is taken
 
--- `this`
+-- `this` is not looked at, is to be an object, a boolean, a number or a text, or is made a text
 pub data This : Type 0 where
-  -- it is not looked at
   Unseen : This
   AnObject : This
   ATruth : This
   ANumber : This
   AText : This
-  -- it is made a text
   MadeText : This
 
--- an argument
+-- an argument stays as it is, or is made a text or a number, the last two where it is not undefined
 pub data Kind : Type 0 where
-  -- as it is
   Kept : Kind
   ToText : Kind
   ToNumber : Kind
-  -- where it is not undefined
   ToTextIfAny : Kind
   ToNumberIfAny : Kind
 
@@ -101,7 +97,7 @@ arguments_converted (kind ∷ kinds) others (v ∷ vs) = do
   us ← arguments_converted kinds others vs
   pure (u ∷ us)
 
--- a native that goes on so once all are converted
+-- a native whose row comes once all are converted
 abbrev pub converting
     : {A : Type 0} → Takes → Value → List Value → (Value → List Value → Asks A) → Asks A
 converting takes this args row = do

@@ -24,7 +24,7 @@ this_object (value.Num n) = stop Wrapper
 this_object (value.Str s) = stop Wrapper
 this_object (value.Object o) = pure o.0
 
--- the boolean that it is, in Boolean.prototype (15.6.4.2, 15.6.4.3)
+-- the boolean that it is, in Boolean.prototype (15.6.4.2, 15.6.4.3); the global object is none
 abbrev pub this_truth : Value → Asks Bool
 this_truth value.Undefined = throw TypeError
 this_truth value.Null = throw TypeError
