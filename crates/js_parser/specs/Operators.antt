@@ -11,6 +11,7 @@ use Rattle.js_tree.specs.declared.tree.PrefixOp.{PrefixOp}
 use Rattle.js_tree.specs.declared.tree.PrefixOp.TheVariants as p
 use Rattle.js_tree.specs.declared.tree.PostfixOp.{PostfixOp}
 use Rattle.js_tree.specs.declared.tree.PostfixOp.TheVariants as q
+use Rattle.js_tree.specs.Levels.{Operator, LogicalOr, LogicalAnd, Operation}
 use Rattle.js_tree.specs.Tree.{Expr}
 use Rattle.js_tree.specs.Tree
 

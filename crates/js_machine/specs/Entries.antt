@@ -1,0 +1,184 @@
+-- Entries of functions (ES3 10.1, 10.2, 13.2.1): what runs once the step of the entry is taken.
+use Rattle.std.specs.Prelude.{ℕ, suc, List, [], ◌∷◌, ◌++◌, length, codes, Option, Some, None}
+use Rattle.std.specs.Prelude.{option_map}
+use Rattle.js_values.specs.declared.reason.Reason.TheVariants.{Wrapper}
+use Rattle.js_values.specs.declared.value.Value.{Value}
+use Rattle.js_values.specs.declared.value.Value.TheVariants as value
+use Rattle.exceptions_core.specs.declared.completion.Completion.{Completion}
+use Rattle.exceptions_core.specs.declared.completion.Completion.TheVariants.{Normal, Break}
+use Rattle.exceptions_core.specs.declared.completion.Completion.TheVariants.{Continue, Return}
+use Rattle.exceptions_core.specs.declared.completion.Completion.TheVariants.{Throw}
+use Rattle.exceptions_core.specs.declared.completion.Frame.TheVariants as frame
+use Rattle.exceptions_core.specs.declared.completion.Landing.{Landing}
+use Rattle.exceptions_core.specs.declared.completion.Landing.TheVariants as landing
+use Rattle.object_heap.specs.declared.built_in.BuiltIn.TheVariants as built
+use Rattle.object_heap.specs.declared.object.Attrs.{Attrs}
+use Rattle.object_heap.specs.declared.object.Class.TheVariants as class
+use Rattle.object_heap.specs.Arrays.{whole}
+use Rattle.object_heap.specs.BuiltIns.{number_of}
+use Rattle.object_heap.specs.Changes.{holding, sharing, hidden_only}
+use Rattle.object_heap.specs.Names.{Name, length_name, decimal}
+use Rattle.object_heap.specs.Objects.{Property, Object}
+use Rattle.js_natives.specs.declared.native.Native.{Native}
+use Rattle.js_natives.specs.declared.native.Native.TheVariants as native
+use Rattle.js_natives.specs.Natives.{calls_of, native_program}
+use Rattle.js_tree.specs.declared.tree.Role.{Role}
+use Rattle.js_tree.specs.declared.tree.Role.TheVariants as role
+use Rattle.js_tree.specs.Tree.{Func, Code, Stmts}
+use Rattle.js_machine.specs.Asks.{Program, Under, Stop, TellCall, TellEntry, Open, Write, Make, Own}
+use Rattle.js_machine.specs.Asks.{Define, Env, Outcome}
+use Rattle.js_machine.specs.State.{object_value, Callee, Script, Native, HostCall}
+use Rattle.js_machine.specs.Frames.{Asks, ◌>>=◌, ◌>>◌, gives, completes, at_frame}
+use Rattle.js_machine.specs.References.{global_object, global_value}
+use Rattle.js_machine.specs.Functions.{make_function, name_of}
+use Rattle.js_machine.specs.Declared.{functions_of, names_of, vars_in_all}
+use Rattle.js_machine.specs.Statements.{statements}
+use Rattle.js_machine.specs.Applying.{apply, call}
+use Rattle.js_machine.specs.Embed.{embed}
+
+-- ---- 10.1.8, the object `arguments`, hidden as a whole
+
+abbrev pub arguments_name : Name
+arguments_name = codes "arguments"
+
+-- an index that is also below the count of formals shares its value with that formal, whose slot is
+-- one more, since `arguments` comes before
+abbrev pub indices : ℕ → ℕ → List Name → List Value → List Property
+indices index scope formals [] = []
+indices index scope [] (v ∷ vs) =
+    holding (decimal index) v hidden_only ∷ indices (suc index) scope [] vs
+indices index scope (name ∷ formals) (v ∷ vs) =
+    sharing index scope (suc index) ∷ indices (suc index) scope formals vs
+
+abbrev pub arguments_object : ℕ → List Name → List Value → Object
+arguments_object scope formals args = record {
+  class = class.Arguments;
+  prototype = Some (number_of built.ObjectPrototype);
+  properties = holding length_name (whole (length args)) hidden_only
+      ∷ indices 0 scope formals args;
+}
+
+-- ---- 10.1.3, in the order that is said there
+
+-- formals without an argument stay undefined
+abbrev pub bind_formals : List Name → List Value → ℕ → Program → Program
+bind_formals [] args scope p = p
+bind_formals (name ∷ formals) [] scope p = p
+bind_formals (name ∷ formals) (v ∷ vs) scope p =
+    Write (scope ∷ []) name v (bind_formals formals vs scope p)
+
+abbrev pub bind_function : Option Name → ℕ → Value → Program → Program
+bind_function None scope v p = p
+bind_function (Some name) scope v p = Write (scope ∷ []) name v p
+
+abbrev pub bind_functions : List Func → ℕ → List ℕ → Program → Program
+bind_functions [] scope chain p = p
+bind_functions (code ∷ rest) scope chain p = do
+  f ← make_function code chain
+  bind_function (name_of code) scope (object_value f)
+  bind_functions rest scope chain p
+
+-- the names of a function's scope
+abbrev pub names_bound : List Name → Stmts → List Name
+names_bound formals body =
+    arguments_name ∷ (formals ++ (names_of (functions_of body) ++ vars_in_all body))
+
+-- 10.2.3: a new scope, what is bound in it, and the body
+abbrev pub run_body : List Name → Stmts → List ℕ → Value → List Value → Program
+run_body formals body chain this args = do
+  scope ← Open (names_bound formals body) chain
+  arguments ← Make (arguments_object scope formals args)
+  Write (scope ∷ []) arguments_name (object_value arguments)
+  bind_formals formals args scope
+  bind_functions (functions_of body) scope (scope ∷ chain)
+  statements body (record { chain = scope ∷ chain; this = this })
+
+-- ---- 13.2.1 [[Call]], of a script's function
+
+-- an undefined or null `this` is the global object (10.2.3); another primitive one would have to be
+-- put into an object, which stops
+abbrev pub with_this : Value → Asks Value
+with_this value.Undefined k = k global_value
+with_this value.Null k = k global_value
+with_this (value.Bool b) k = Stop Wrapper
+with_this (value.Num n) k = Stop Wrapper
+with_this (value.Str text) k = Stop Wrapper
+with_this (value.Object o) k = k (value.Object o)
+
+-- the entries of late functions and wrappers have no beat and no mark; that of a stub is the entry
+-- of its number
+abbrev pub counted : Role → ℕ → Program → Program
+counted role.Plain number p = TellEntry number p
+counted role.Stub number p = TellEntry number p
+counted role.Wrapper number p = p
+counted role.Late number p = p
+
+abbrev pub enter_code : Func → List ℕ → Value → List Value → Program
+enter_code (Code number name formals body role) chain this args = do
+  this ← with_this this
+  counted role number
+  run_body formals body chain this args
+
+-- steps 4 to 7: what the call gives
+abbrev pub returned : Completion → Program
+returned Normal = gives value.Undefined
+returned (Break label) = gives value.Undefined
+returned (Continue label) = gives value.Undefined
+returned (Return v) = gives v
+returned (Throw v) = completes (Throw v)
+
+abbrev pub to_caller : Landing → Program
+to_caller (landing.Caller c) = returned c
+to_caller _ = gives value.Undefined
+
+-- what waits for the body
+abbrev pub after_body : Outcome → Program
+after_body = at_frame frame.Call to_caller
+
+-- ---- of natives
+
+abbrev pub enter_native : Native → Value → List Value → Program
+enter_native native.Apply this args = apply this args
+enter_native native.Call this args = call this args
+enter_native n this args = embed (native_program n this args)
+
+-- ---- all of them; None where it cannot be called
+
+abbrev pub entry : Callee → Value → List Value → Option Program
+entry (Script code chain) this args = Some (Under (enter_code code chain this args) after_body)
+entry (Native b) this args = option_map (λ n. enter_native n this args) (calls_of b).called
+-- a host call is told, and answered
+entry (HostCall name) this args = Some (TellCall name args gives)
+
+-- ---- 10.2.1, the entry of a script
+
+-- functions and variables of scripts are fixed properties of the global object
+abbrev pub declared : Attrs
+declared = record { read_only = false; hidden = false; fixed = true }
+
+abbrev pub define_function : Option Name → Value → Program → Program
+define_function None v p = p
+define_function (Some name) v p = Define global_object name v declared p
+
+abbrev pub define_functions : List Func → List ℕ → Program → Program
+define_functions [] chain p = p
+define_functions (code ∷ rest) chain p = do
+  f ← make_function code chain
+  define_function (name_of code) (object_value f)
+  define_functions rest chain p
+
+-- a variable that the global object has itself stays as it is
+abbrev pub define_variable : Name → Program → Option Attrs → Program
+define_variable name p (Some attributes) = p
+define_variable name p None = Define global_object name value.Undefined declared p
+
+abbrev pub define_variables : List Name → Program → Program
+define_variables [] p = p
+define_variables (name ∷ names) p =
+    Own global_object name (define_variable name (define_variables names p))
+
+abbrev pub enter_script : Stmts → Env → Program
+enter_script script env = do
+  define_functions (functions_of script) env.chain
+  define_variables (vars_in_all script)
+  statements script env
