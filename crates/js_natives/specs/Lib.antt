@@ -1,0 +1,14 @@
+pub mod Program
+pub mod Asks
+pub mod Indices
+pub mod This
+pub mod Convert
+pub mod Objects
+pub mod Arrays
+pub mod Moves
+pub mod Strings
+pub mod Numbers
+pub mod MathNatives
+pub mod Errors
+pub mod Globals
+pub mod Natives
