@@ -12,7 +12,7 @@ use Rattle.js_natives.specs.declared.answer.Answer.TheVariants as answer
 use Rattle.js_natives.specs.declared.answer.ErrorKind.{ErrorKind}
 use Rattle.js_natives.specs.declared.answer.ErrorKind.TheVariants as error
 use Rattle.js_natives.specs.declared.native.Native.{Native}
-use Rattle.js_natives.specs.Natives.{calls_of, native_program}
+use Rattle.js_natives.specs.Natives.{calls_of, program_of}
 use Rattle.js_natives.specs.Program as native
 use Rattle.js_machine.specs.Asks.{Program, Tick, Stop, Listen, Make, KindOf, Own, Behind, Delete}
 use Rattle.js_machine.specs.Asks.{Kind, NotObject, NotFunction, ScriptFunction, NativeFunction}
@@ -60,7 +60,7 @@ embed (native.Delete o name p) = Delete o name (λ b. embed p)
 
 abbrev pub constructed_by : Option Native → List Value → Program
 constructed_by None args = throws_type_error
-constructed_by (Some n) args = Tick (embed (native_program n value.Undefined args))
+constructed_by (Some n) args = Tick (embed (program_of n value.Undefined args))
 
 abbrev pub construct_native : BuiltIn → List Value → Program
 construct_native b args = constructed_by (calls_of b).constructed args

@@ -1,6 +1,6 @@
 -- Entries of functions (ES3 10.1, 10.2, 13.2.1): what runs once the step of the entry is taken.
 use Rattle.std.specs.Prelude.{ℕ, suc, List, [], ◌∷◌, ◌++◌, length, codes, Option, Some, None}
-use Rattle.std.specs.Prelude.{option_map}
+use Rattle.std.specs.Prelude.{option_map, false, true}
 use Rattle.js_values.specs.declared.reason.Reason.TheVariants.{Wrapper}
 use Rattle.js_values.specs.declared.value.Value.{Value}
 use Rattle.js_values.specs.declared.value.Value.TheVariants as value
@@ -21,13 +21,14 @@ use Rattle.object_heap.specs.Names.{Name, length_name, decimal}
 use Rattle.object_heap.specs.Objects.{Property, Object}
 use Rattle.js_natives.specs.declared.native.Native.{Native}
 use Rattle.js_natives.specs.declared.native.Native.TheVariants as native
-use Rattle.js_natives.specs.Natives.{calls_of, native_program}
+use Rattle.js_natives.specs.Natives.{calls_of, program_of}
 use Rattle.js_tree.specs.declared.tree.Role.{Role}
 use Rattle.js_tree.specs.declared.tree.Role.TheVariants as role
 use Rattle.js_tree.specs.Tree.{Func, Code, Stmts}
 use Rattle.js_machine.specs.Asks.{Program, Under, Stop, TellCall, TellEntry, Open, Write, Make, Own}
 use Rattle.js_machine.specs.Asks.{Define, Env, Outcome}
-use Rattle.js_machine.specs.State.{object_value, Callee, Script, Native, HostCall}
+use Rattle.js_machine.specs.State.{object_value, Callee}
+use Rattle.js_machine.specs.State as state
 use Rattle.js_machine.specs.Frames.{Asks, ◌>>=◌, ◌>>◌, gives, completes, at_frame}
 use Rattle.js_machine.specs.References.{global_object, global_value}
 use Rattle.js_machine.specs.Functions.{make_function, name_of}
@@ -140,15 +141,15 @@ after_body = at_frame frame.Call to_caller
 abbrev pub enter_native : Native → Value → List Value → Program
 enter_native native.Apply this args = apply this args
 enter_native native.Call this args = call this args
-enter_native n this args = embed (native_program n this args)
+enter_native n this args = embed (program_of n this args)
 
 -- ---- all of them; None where it cannot be called
 
 abbrev pub entry : Callee → Value → List Value → Option Program
-entry (Script code chain) this args = Some (Under (enter_code code chain this args) after_body)
-entry (Native b) this args = option_map (λ n. enter_native n this args) (calls_of b).called
+entry (state.Script code chain) this args = Some (Under (enter_code code chain this args) after_body)
+entry (state.Native b) this args = option_map (λ n. enter_native n this args) (calls_of b).called
 -- a host call is told, and answered
-entry (HostCall name) this args = Some (TellCall name args gives)
+entry (state.HostCall name) this args = Some (TellCall name args gives)
 
 -- ---- 10.2.1, the entry of a script
 

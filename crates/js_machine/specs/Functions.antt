@@ -66,7 +66,7 @@ function_expression code env = do
 -- ---- `eval($dl_get(k))` (Doloto's own): the entry's function, without a name, in the running scope
 
 abbrev pub as_late : Func → Func
-as_late (Code number name formals body role) = Code number None formals body role.Late
+as_late (Code number name formals body stands) = Code number None formals body role.Late
 
 abbrev pub made_late : Option Func → List ℕ → Asks ℕ
 made_late None chain k = Broken

@@ -19,3 +19,5 @@ pub mod Programs
 pub mod Run
 pub mod Page
 pub mod Logs
+pub mod Writing
+pub mod Rows

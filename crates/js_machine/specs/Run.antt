@@ -1,7 +1,6 @@
 -- Runs of programs under a budget of steps.
 use Rattle.std.specs.Prelude.{ℕ, zero, suc, nat_eq, if◌then◌else◌, List, [], ◌∷◌, ◌++◌, length}
 use Rattle.std.specs.Prelude.{Option, Some, None, unwrap_or, slice_get}
-use Rattle.std.specs.List.{count_of}
 use Rattle.js_values.specs.declared.reason.Reason.{Reason}
 use Rattle.js_values.specs.declared.shown.Shown.{Shown}
 use Rattle.js_values.specs.declared.value.Value.{Value}

@@ -1,2 +1,6 @@
 //! What programs mean.
 #![tactic(auto)]
+
+mod rows;
+
+pub use rows::first_rows;
