@@ -21,3 +21,5 @@ pub mod Page
 pub mod Logs
 pub mod Writing
 pub mod Rows
+pub mod Scripts
+pub mod Pages

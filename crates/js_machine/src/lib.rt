@@ -3,4 +3,4 @@
 
 mod rows;
 
-pub use rows::first_rows;
+pub use rows::{worked_functions, worked_logs, worked_objects, worked_pages, worked_scripts};
