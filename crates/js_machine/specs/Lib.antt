@@ -23,3 +23,4 @@ pub mod Writing
 pub mod Rows
 pub mod Scripts
 pub mod Pages
+pub mod WrittenScripts
