@@ -24,3 +24,5 @@ pub mod Rows
 pub mod Scripts
 pub mod Pages
 pub mod WrittenScripts
+pub mod ExpressionScripts
+pub mod OperatorScripts

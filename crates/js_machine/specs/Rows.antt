@@ -1,14 +1,14 @@
 -- Runs of the rows.
-use Rattle.std.specs.Prelude.{ℕ, List, [], ◌∷◌, codes, pos, neg_ℤ}
+use Rattle.std.specs.Prelude.{ℕ, List, [], ◌∷◌, ◌++◌, codes, pos, neg_ℤ, Bool}
 use Rattle.js_values.specs.declared.number.Num.TheVariants.{Whole}
 use Rattle.js_values.specs.declared.shown.Shown.{Shown}
 use Rattle.js_values.specs.declared.shown.Shown.TheVariants as shown
 use Rattle.object_heap.specs.Names.{Name}
-use Rattle.js_tree.specs.Tree.{Stmt}
+use Rattle.js_tree.specs.Tree.{Expr, Stmt}
 use Rattle.js_machine.specs.Run.{Mark, Trace, Call}
 use Rattle.js_machine.specs.Page.{Page, original}
 use Rattle.js_machine.specs.Logs.{Ending, Ended, marks_of, ending_of, seen, steps_of, beats_of}
-use Rattle.js_machine.specs.Writing.{block}
+use Rattle.js_machine.specs.Writing.{block, shows, tries}
 
 -- ---- pages
 
@@ -54,6 +54,17 @@ ended marks steps beats =
 abbrev pub lines : List Stmt → List Mark
 lines ss = seen (marks_of (run_of ss))
 
+-- of a script that calls `host.out` with these, behind these statements
+abbrev pub behind : List Stmt → List Expr → List Mark
+behind ss es = lines (ss ++ shows es ∷ [])
+
+abbrev pub values : List Expr → List Mark
+values es = behind [] es
+
+-- of `try{..}catch(e){host.out(e.name);}`
+abbrev pub caught : List Stmt → List Mark
+caught ss = lines (tries ss ∷ [])
+
 -- its end, with the steps
 abbrev pub end_of : List Stmt → Ending × ℕ
 end_of ss = (ending_of (run_of ss), steps_of (run_of ss))
@@ -71,6 +82,9 @@ minus n = shown.Num (Whole (neg_ℤ (pos n)))
 
 abbrev pub text : Name → Shown
 text x = shown.Str x
+
+abbrev pub truth : Bool → Shown
+truth b = shown.Bool b
 
 -- a call with one number, or with one text
 abbrev pub numbers : ℕ → Mark

@@ -84,6 +84,35 @@ declare number x formals body = tree.Declare (Code number (Some x) formals (bloc
 abbrev pub returns : Expr → Stmt
 returns e = tree.Return (AnExpr e)
 
+-- `try{..}catch(e){host.out(e.name);}`
+abbrev pub tries : List Stmt → Stmt
+tries ss =
+    tree.Try (blocks ss) (tree.ACatch (codes "e") (blocks (
+    shows (tree.Dot (name (codes "e")) (codes "name") ∷ []) ∷ []))) tree.NoStmt
+
+-- `x;`, and `return;` of nothing
+abbrev pub does : Expr → Stmt
+does e = tree.Do e
+
+-- ---- objects that tell when they are converted
+
+-- `valueOf:function(){host.out("x");return e;}`, or with another name
+abbrev pub telling : Name → Name → Expr → Name × Expr
+telling method x e = (method, function 9 [] (shows (text x ∷ []) ∷ returns e ∷ []))
+
+abbrev pub value_of : Name
+value_of = codes "valueOf"
+
+abbrev pub to_string : Name
+to_string = codes "toString"
+
+-- an object whose number, or whose text, is e; `x` is shown when it is converted
+abbrev pub counted : Name → Expr → Expr
+counted x e = object (telling value_of x e ∷ [])
+
+abbrev pub spelled : Name → Expr → Expr
+spelled x e = object (telling to_string x e ∷ [])
+
 -- ---- names
 
 abbrev pub a : Name
