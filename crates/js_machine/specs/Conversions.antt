@@ -11,7 +11,7 @@ use Rattle.js_values.specs.Values as values
 use Rattle.object_heap.specs.Names.{Name, is_reserved}
 use Rattle.js_machine.specs.Asks.{Program, Enter, Stop}
 use Rattle.js_machine.specs.State.{object_value}
-use Rattle.js_machine.specs.Frames.{Asks, ◌>>=◌, ◌>>◌, on_value}
+use Rattle.js_machine.specs.Frames.{Asks, ◌>>=◌, on_value}
 use Rattle.js_machine.specs.References.{get, throws_type_error}
 
 -- ---- stops

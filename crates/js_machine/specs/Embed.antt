@@ -1,5 +1,5 @@
 -- The natives' programs as programs of the machine (ES3 15).
-use Rattle.std.specs.Prelude.{ℕ, List, [], Option, Some, None}
+use Rattle.std.specs.Prelude.{List, Option, Some, None}
 use Rattle.js_values.specs.declared.value.Value.{Value}
 use Rattle.js_values.specs.declared.value.Value.TheVariants as value
 use Rattle.object_heap.specs.declared.built_in.BuiltIn.{BuiltIn}

@@ -1,5 +1,5 @@
 -- Small expressions and scripts of the rows on ES3 11, each beside its text.
-use Rattle.std.specs.Prelude.{ℕ, true, false, List, [], ◌∷◌, ◌++◌, codes, Option, Some, None}
+use Rattle.std.specs.Prelude.{ℕ, true, false, List, [], ◌∷◌, codes, Some}
 use Rattle.js_tree.specs.declared.tree.BinaryOp.{BinaryOp}
 use Rattle.js_tree.specs.declared.tree.BinaryOp.TheVariants as op
 use Rattle.js_tree.specs.declared.tree.PostfixOp.TheVariants as postfix
@@ -9,9 +9,9 @@ use Rattle.js_tree.specs.Tree.{Name, Expr, Stmt, NoExpr, AnExpr, MoreElements, N
 use Rattle.js_tree.specs.Tree as tree
 use Rattle.js_machine.specs.Writing.{name, text, number, call, new, array, object, set, out}
 use Rattle.js_machine.specs.Writing.{function, shows, sets, calls, var, declare, returns, does}
-use Rattle.js_machine.specs.Writing.{counted, spelled, to_string, value_of, telling}
+use Rattle.js_machine.specs.Writing.{spelled}
 use Rattle.js_machine.specs.Writing.{a, b, e, f, g, i, k, o, x}
-use Rattle.js_machine.specs.Scripts.{dot, at, arguments}
+use Rattle.js_machine.specs.Scripts.{dot, at}
 
 abbrev pub one : Expr
 one = number 1

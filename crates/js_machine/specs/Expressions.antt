@@ -1,15 +1,14 @@
 -- Expressions (ES3 11): what each node does once its step is taken.
-use Rattle.std.specs.Prelude.{ℕ, if◌then◌else◌, pos, Option, Some, None}
+use Rattle.std.specs.Prelude.{if◌then◌else◌, pos, Option, Some, None}
 use Rattle.js_values.specs.declared.number.Num.TheVariants as number
-use Rattle.js_values.specs.declared.value.Value.{Value}
 use Rattle.js_values.specs.declared.value.Value.TheVariants as value
 use Rattle.js_values.specs.Values.{truth_of}
 use Rattle.js_tree.specs.declared.tree.BinaryOp.{BinaryOp}
 use Rattle.js_tree.specs.Tree.{Expr}
 use Rattle.js_tree.specs.Tree as tree
 use Rattle.js_machine.specs.Asks.{Program, Tail, Env, AnExpr}
-use Rattle.js_machine.specs.Frames.{Asks, ◌>>=◌, ◌>>◌, gives, value_of}
-use Rattle.js_machine.specs.References.{Reference, get_value, put_value}
+use Rattle.js_machine.specs.Frames.{◌>>=◌, ◌>>◌, gives, value_of}
+use Rattle.js_machine.specs.References.{get_value, put_value}
 use Rattle.js_machine.specs.Functions.{function_expression, late_function}
 use Rattle.js_machine.specs.Primary.{identifier, array_literal, object_literal}
 use Rattle.js_machine.specs.Calls.{reference, dot, index, read, call, new}

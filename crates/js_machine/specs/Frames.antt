@@ -1,8 +1,6 @@
 -- How a program goes on with outcomes: after an expression, after a statement, and where a frame
 -- takes completions (ES3 8.9, 12).
-use Rattle.std.specs.Prelude.{ℕ}
 use Rattle.js_values.specs.declared.value.Value.{Value}
-use Rattle.js_values.specs.declared.value.Value.TheVariants.{Undefined}
 use Rattle.exceptions_core.specs.declared.completion.Completion.{Completion}
 use Rattle.exceptions_core.specs.declared.completion.Completion.TheVariants.{Normal, Break}
 use Rattle.exceptions_core.specs.declared.completion.Completion.TheVariants.{Continue, Return}

@@ -1,6 +1,5 @@
 -- Function objects (ES3 13).
 use Rattle.std.specs.Prelude.{ℕ, List, [], ◌∷◌, length, Option, Some, None}
-use Rattle.js_values.specs.declared.value.Value.{Value}
 use Rattle.object_heap.specs.declared.built_in.BuiltIn.TheVariants as built
 use Rattle.object_heap.specs.declared.object.Class.TheVariants as class
 use Rattle.object_heap.specs.Arrays.{whole}

@@ -26,3 +26,6 @@ pub mod Pages
 pub mod WrittenScripts
 pub mod ExpressionScripts
 pub mod OperatorScripts
+pub mod StatementScripts
+pub mod FunctionScripts
+pub mod PageScripts

@@ -1,5 +1,5 @@
 -- Iteration statements (ES3 12.6).
-use Rattle.std.specs.Prelude.{ℕ, if◌then◌else◌, is_some, List, [], ◌∷◌, ◌++◌}
+use Rattle.std.specs.Prelude.{ℕ, if◌then◌else◌, List, [], ◌∷◌}
 use Rattle.std.specs.Prelude.{Option, Some, None}
 use Rattle.js_values.specs.declared.value.Value.{Value}
 use Rattle.js_values.specs.declared.value.Value.TheVariants as value
@@ -18,7 +18,7 @@ use Rattle.js_tree.specs.Tree.{MoreVarItems, ForInit, Nothing, Vars, First, ForT
 use Rattle.js_machine.specs.Asks as ask
 use Rattle.js_machine.specs.Asks.{Program, Begin, Tail, Turn, Own, Visible, Node, ATurn, Loop, Env}
 use Rattle.js_machine.specs.Asks.{Outcome}
-use Rattle.js_machine.specs.Frames.{Asks, ◌>>=◌, ◌>>◌, done, completes, on_value, value_of}
+use Rattle.js_machine.specs.Frames.{◌>>=◌, ◌>>◌, done, completes, on_value, value_of}
 use Rattle.js_machine.specs.Frames.{at_frame}
 use Rattle.js_machine.specs.References.{resolve, put_value}
 use Rattle.js_machine.specs.Conversions.{to_object}

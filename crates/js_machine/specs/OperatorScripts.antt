@@ -1,13 +1,13 @@
 -- Small expressions of the rows on ES3 11.5 to 11.10 and on conversions, each beside its text.
-use Rattle.std.specs.Prelude.{ℕ, true, false, List, [], ◌∷◌, ◌++◌, codes, map}
+use Rattle.std.specs.Prelude.{true, List, [], ◌∷◌, codes}
 use Rattle.js_tree.specs.declared.tree.BinaryOp.{BinaryOp}
 use Rattle.js_tree.specs.declared.tree.BinaryOp.TheVariants as op
 use Rattle.js_tree.specs.declared.tree.PrefixOp.TheVariants as prefix
 use Rattle.js_tree.specs.Tree.{Name, Expr, Stmt}
 use Rattle.js_tree.specs.Tree as tree
-use Rattle.js_machine.specs.Writing.{name, text, number, call, new, array, object, out, function}
-use Rattle.js_machine.specs.Writing.{shows, sets, var, returns, does, counted, spelled, telling}
-use Rattle.js_machine.specs.Writing.{to_string, value_of, a, b, o, x}
+use Rattle.js_machine.specs.Writing.{name, text, number, array, object, function}
+use Rattle.js_machine.specs.Writing.{returns, does, counted, telling}
+use Rattle.js_machine.specs.Writing.{to_string, value_of, a, b, o}
 use Rattle.js_machine.specs.Scripts.{dot, at}
 use Rattle.js_machine.specs.ExpressionScripts.{one, two, binary, unary, minus, nan, empty, nothing}
 

@@ -12,14 +12,12 @@ use Rattle.js_values.specs.Numbers.{less_of}
 use Rattle.js_values.specs.Integers.{uint32_of, signed_32_bits, shifted_left, shifted_right}
 use Rattle.js_values.specs.Integers.{shifted_right_unsigned}
 use Rattle.js_values.specs.Equality.{equal_of}
-use Rattle.object_heap.specs.declared.built_in.BuiltIn.{BuiltIn}
-use Rattle.object_heap.specs.declared.object.Class.{Class}
 use Rattle.object_heap.specs.Names.{prototype_name}
 use Rattle.js_tree.specs.declared.tree.BinaryOp.{BinaryOp}
 use Rattle.js_tree.specs.declared.tree.BinaryOp.TheVariants as op
-use Rattle.js_machine.specs.Asks.{Program, Has, KindOf, Compare, Behind, Kind, NotObject}
+use Rattle.js_machine.specs.Asks.{Has, KindOf, Compare, Behind, Kind, NotObject}
 use Rattle.js_machine.specs.Asks.{NotFunction, ScriptFunction, NativeFunction, HostFunction}
-use Rattle.js_machine.specs.Frames.{Asks, ◌>>=◌, ◌>>◌}
+use Rattle.js_machine.specs.Frames.{Asks, ◌>>=◌}
 use Rattle.js_machine.specs.References.{get, throws_type_error}
 use Rattle.js_machine.specs.Conversions.{or_stop, text_or_stop, HintNumber, to_primitive}
 use Rattle.js_machine.specs.Conversions.{to_number, to_text, to_name}

@@ -1,5 +1,5 @@
 -- The run of a page: its scripts, then what happens when they are over, then its events.
-use Rattle.std.specs.Prelude.{ℕ, suc, List, [], ◌∷◌, ◌++◌, length, Some, None}
+use Rattle.std.specs.Prelude.{ℕ, suc, List, [], ◌∷◌, ◌++◌, length, None}
 use Rattle.js_values.specs.declared.value.Value.{Value}
 use Rattle.js_values.specs.declared.value.Value.TheVariants as value
 use Rattle.exceptions_core.specs.declared.completion.Completion.{Completion}
@@ -16,10 +16,10 @@ use Rattle.js_tree.specs.Tree.{Func, Script}
 use Rattle.js_machine.specs.Asks.{Program, Begin, Enter, TellUncaught, TellIdle, TellEvent, Env}
 use Rattle.js_machine.specs.Asks.{Listeners, AScript, Outcome, Gives, Ends}
 use Rattle.js_machine.specs.State.{State, OfHost, object_value}
-use Rattle.js_machine.specs.Frames.{Asks, ◌>>=◌, ◌>>◌, done}
+use Rattle.js_machine.specs.Frames.{◌>>=◌, ◌>>◌, done}
 use Rattle.js_machine.specs.Functions.{function_object}
 use Rattle.js_machine.specs.References.{global_value}
-use Rattle.js_machine.specs.Run.{World, Trace, run}
+use Rattle.js_machine.specs.Run.{Trace, run}
 
 -- ---- the page
 

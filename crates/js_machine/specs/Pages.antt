@@ -8,7 +8,7 @@ use Rattle.js_tree.specs.declared.tree.PostfixOp.TheVariants as postfix
 use Rattle.js_tree.specs.Tree.{Expr, Stmt}
 use Rattle.js_tree.specs.Tree as tree
 use Rattle.js_machine.specs.Page.{Page}
-use Rattle.js_machine.specs.Writing.{name, text, number, call, new, array, set, function, shows}
+use Rattle.js_machine.specs.Writing.{name, text, number, call, new, array, function, shows}
 use Rattle.js_machine.specs.Writing.{sets, calls, var, declare, returns, f, i, k}
 use Rattle.js_machine.specs.Scripts.{dot, at}
 

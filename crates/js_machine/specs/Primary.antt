@@ -1,8 +1,5 @@
 -- Primary expressions (ES3 11.1).
-use Rattle.std.specs.Prelude.{ℕ, suc, ◌+◌, List, [], ◌∷◌, pos, Some}
-use Rattle.js_values.specs.declared.number.Num.TheVariants as number
-use Rattle.js_values.specs.declared.value.Value.{Value}
-use Rattle.js_values.specs.declared.value.Value.TheVariants as value
+use Rattle.std.specs.Prelude.{ℕ, ◌+◌, Some}
 use Rattle.object_heap.specs.declared.built_in.BuiltIn.TheVariants as built
 use Rattle.object_heap.specs.declared.object.Class.TheVariants as class
 use Rattle.object_heap.specs.Arrays.{whole}
@@ -14,7 +11,7 @@ use Rattle.js_tree.specs.Tree.{Elements, NoElements, MoreElements, NoExpr, AnExp
 use Rattle.js_tree.specs.Tree.{Pairs, NoPairs, MorePairs}
 use Rattle.js_machine.specs.Asks.{Program, Env, Make}
 use Rattle.js_machine.specs.State.{object_value}
-use Rattle.js_machine.specs.Frames.{Asks, ◌>>=◌, ◌>>◌, gives, value_of}
+use Rattle.js_machine.specs.Frames.{◌>>=◌, ◌>>◌, gives, value_of}
 use Rattle.js_machine.specs.References.{resolve, get_value, put}
 
 -- ---- 11.1.2

@@ -13,7 +13,7 @@ use Rattle.object_heap.specs.Names.{Name, is_same_name, length_name}
 use Rattle.object_heap.specs.Objects.{Object}
 use Rattle.js_machine.specs.Asks.{Program, Find, Write, Make, Get, Put, Has}
 use Rattle.js_machine.specs.State.{object_value}
-use Rattle.js_machine.specs.Frames.{Asks, ◌>>=◌, ◌>>◌, gives, completes}
+use Rattle.js_machine.specs.Frames.{Asks, ◌>>=◌, completes}
 
 -- ---- errors: new objects without an own `message`
 

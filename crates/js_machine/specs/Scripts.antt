@@ -1,5 +1,5 @@
 -- Scripts of the rows, each beside its text.
-use Rattle.std.specs.Prelude.{ℕ, true, List, [], ◌∷◌, ◌++◌, codes, Option, Some, None}
+use Rattle.std.specs.Prelude.{ℕ, true, List, [], ◌∷◌, ◌++◌, codes, Some, None}
 use Rattle.js_tree.specs.declared.tree.BinaryOp.TheVariants as op
 use Rattle.js_tree.specs.declared.tree.PostfixOp.TheVariants as postfix
 use Rattle.js_tree.specs.declared.tree.PrefixOp.TheVariants as prefix
@@ -8,7 +8,7 @@ use Rattle.js_tree.specs.Tree.{Name, Expr, Stmt, Code, NoExpr, AnExpr, NoStmt, A
 use Rattle.js_tree.specs.Tree.{ACatch, Nothing, Vars, First, AVar, Target, MoreVarItems, NoVarItems}
 use Rattle.js_tree.specs.Tree.{MoreCases, NoCases}
 use Rattle.js_tree.specs.Tree as tree
-use Rattle.js_machine.specs.Writing.{block, name, text, number, call, new, array, object, set, out}
+use Rattle.js_machine.specs.Writing.{block, name, text, number, call, new, array, object}
 use Rattle.js_machine.specs.Writing.{function, shows, sets, calls, blocks, var, declare, returns}
 use Rattle.js_machine.specs.Writing.{a, b, e, f, g, i, k, o, x}
 

@@ -1,22 +1,19 @@
 -- The state of a run, and what each ask changes in it.
 use Rattle.std.specs.Prelude.{ℕ, suc, nat_eq, Bool, true, false, if◌then◌else◌, List, [], ◌∷◌, ◌++◌}
-use Rattle.std.specs.Prelude.{Option, Some, None, slice_get, length, map, unwrap_or}
+use Rattle.std.specs.Prelude.{Option, Some, None, slice_get, length, unwrap_or}
 use Rattle.js_values.specs.declared.value.Value.{Value}
 use Rattle.js_values.specs.declared.value.Value.TheVariants as value
-use Rattle.js_values.specs.Shown.{Passed, passed_with}
-use Rattle.object_heap.specs.declared.object.Attrs.{Attrs}
+use Rattle.js_values.specs.Shown.{Passed}
 use Rattle.object_heap.specs.declared.object.Class.{Class}
 use Rattle.object_heap.specs.declared.object.Class.TheVariants as class
 use Rattle.object_heap.specs.declared.built_in.BuiltIn.{BuiltIn}
-use Rattle.object_heap.specs.declared.built_in.BuiltIn.TheVariants as built
 use Rattle.object_heap.specs.Names.{Name, is_same_name}
 use Rattle.object_heap.specs.Objects.{Slot, Holds, Shares, Object, Heap, class_of}
-use Rattle.object_heap.specs.BuiltIns.{number_of, which}
-use Rattle.object_heap.specs.Changes.{defined, deleted}
+use Rattle.object_heap.specs.BuiltIns.{which}
 use Rattle.object_heap.specs.Get.{get}
 use Rattle.object_heap.specs.Put as heap_put
-use Rattle.scope_arena.specs.Scopes.{Scopes, entered, value_at, written_at, fixed_at}
-use Rattle.scope_arena.specs.Search.{value_of_name, with_name}
+use Rattle.scope_arena.specs.Scopes.{Scopes, entered, value_at, written_at}
+use Rattle.scope_arena.specs.Search.{with_name}
 use Rattle.js_tree.specs.Tree.{Func}
 use Rattle.js_machine.specs.Asks.{Kind, NotObject, NotFunction, ScriptFunction, NativeFunction}
 use Rattle.js_machine.specs.Asks.{HostFunction}

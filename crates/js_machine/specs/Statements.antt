@@ -1,5 +1,5 @@
 -- Statements (ES3 12): what each node does once its step is taken.
-use Rattle.std.specs.Prelude.{ℕ, if◌then◌else◌, List, [], ◌∷◌, ◌++◌, Option, Some, None}
+use Rattle.std.specs.Prelude.{if◌then◌else◌, List, [], ◌∷◌, ◌++◌}
 use Rattle.js_values.specs.declared.value.Value.{Value}
 use Rattle.js_values.specs.declared.value.Value.TheVariants as value
 use Rattle.js_values.specs.Values.{truth_of}
@@ -16,7 +16,7 @@ use Rattle.js_tree.specs.Tree as tree
 use Rattle.js_machine.specs.Asks as ask
 use Rattle.js_machine.specs.Asks.{Program, Begin, Tail, Under, Open, Write, Compare, TellUse, Env}
 use Rattle.js_machine.specs.Asks.{Outcome}
-use Rattle.js_machine.specs.Frames.{Asks, ◌>>=◌, ◌>>◌, done, completes, value_of}
+use Rattle.js_machine.specs.Frames.{◌>>=◌, ◌>>◌, done, completes, value_of}
 use Rattle.js_machine.specs.Frames.{after_statement, at_frame}
 use Rattle.js_machine.specs.Loops.{variables, do_while, while, for, for_in}
 

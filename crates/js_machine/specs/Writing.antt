@@ -1,8 +1,6 @@
 -- Trees of the rows, written by hand.
-use Rattle.std.specs.Prelude.{ℕ, List, [], ◌∷◌, codes, Option, Some, None}
-use Rattle.js_tree.specs.declared.tree.BinaryOp.{BinaryOp}
-use Rattle.js_tree.specs.declared.tree.Role.{Role}
-use Rattle.js_tree.specs.declared.tree.Role.TheVariants.{Plain, Stub, Wrapper, Late}
+use Rattle.std.specs.Prelude.{ℕ, List, [], ◌∷◌, codes, Some, None}
+use Rattle.js_tree.specs.declared.tree.Role.TheVariants.{Plain}
 use Rattle.js_tree.specs.Tree.{Name, Expr, Exprs, NoExprs, MoreExprs, MaybeExpr, NoExpr, AnExpr}
 use Rattle.js_tree.specs.Tree.{Stmt, Stmts, NoStmts, MoreStmts, Func, Code, VarItems, NoVarItems}
 use Rattle.js_tree.specs.Tree.{MoreVarItems, Elements, NoElements, MoreElements, Pairs, NoPairs}

@@ -9,13 +9,13 @@ use Rattle.js_tree.specs.Tree.{Expr, Stmt, Func, Code, NoExpr, AnExpr, NoStmt, A
 use Rattle.js_tree.specs.Tree.{NoVarItems, MoreVarItems, VarItems}
 use Rattle.js_tree.specs.Tree as tree
 use Rattle.js_machine.specs.Logs.{marks_of, seen}
-use Rattle.js_machine.specs.Page.{Page, written}
+use Rattle.js_machine.specs.Page.{written}
 use Rattle.js_machine.specs.Pages.{listens}
 use Rattle.js_machine.specs.Rows.{page, ample}
 use Rattle.js_machine.specs.Run.{Mark, Trace}
 use Rattle.js_machine.specs.Scripts as script
 use Rattle.js_machine.specs.Scripts.{arguments, dot, at}
-use Rattle.js_machine.specs.Writing.{block, name, text, number, call, set, shows, sets, calls}
+use Rattle.js_machine.specs.Writing.{block, name, text, number, call, shows, sets, calls}
 use Rattle.js_machine.specs.Writing.{blocks, var, returns, a, b, e, f, g, k, x}
 
 -- ---- stubs

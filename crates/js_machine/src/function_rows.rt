@@ -1,0 +1,82 @@
+//! Worked functions (ES3 10, 13, 15.3): these calls do nothing, and each says what the host sees, or
+//! how a run ends.
+
+ghost use Rattle.std.specs.Prelude.{◌≡◌, ◌∷◌, [], codes, true, false};
+ghost use Rattle.js_values.specs.declared.reason.Reason.TheVariants as reason;
+ghost use Rattle.js_values.specs.declared.shown.Shown.TheVariants as shown;
+ghost use Rattle.js_machine.specs.ExpressionScripts.{empty, nothing, one};
+ghost use Rattle.js_machine.specs.FunctionScripts as small;
+ghost use Rattle.js_machine.specs.Logs.{Ended, Stopped, marks_of, seen};
+ghost use Rattle.js_machine.specs.Page.{original};
+ghost use Rattle.js_machine.specs.Rows.{ample, behind, caught, end_of, lines, number, numbers, out};
+ghost use Rattle.js_machine.specs.Rows.{page, text, texts, truth, values};
+ghost use Rattle.js_machine.specs.Scripts.{dot};
+ghost use Rattle.js_machine.specs.Writing as tree;
+
+/// What an entry binds, in order.
+pub fn bindings()
+    ensures declares_first { lines small.declares_first
+        ≡ out (number 2 ∷ shown.Undefined ∷ []) ∷ [] }
+    ensures binds_in_order { lines small.binds_in_order
+        ≡ out (number 1 ∷ number 5 ∷ text (codes "function") ∷ []) ∷ [] }
+    ensures declares_own { lines small.declares_own
+        ≡ out (shown.Undefined ∷ text (codes "function") ∷ []) ∷ [] }
+    ensures declares_again { seen (marks_of (original (tree.block small.makes_globals
+        ∷ tree.block small.declares_again ∷ []) page ample)) ≡ texts tree.a ∷ texts tree.b
+        ∷ texts tree.k ∷ out (truth false ∷ truth true ∷ truth false ∷ []) ∷ [] }
+    ensures constants { lines small.writes_constants
+        ≡ out (number 1 ∷ number 2 ∷ truth false ∷ shown.Undefined ∷ []) ∷ [] }
+{}
+
+/// `arguments`.
+pub fn arguments_of_calls()
+    ensures shares { lines small.shares ≡ out (number 2 ∷ number 2 ∷ number 3 ∷ [])
+        ∷ out (number 2 ∷ number 5 ∷ []) ∷ texts (codes "0") ∷ [] }
+    ensures shares_nothing { lines small.shares_nothing ≡ out (number 0 ∷ shown.Undefined
+        ∷ shown.Undefined ∷ number 2 ∷ []) ∷ [] }
+{}
+
+/// Function objects and `new`.
+pub fn function_objects()
+    ensures keeps_its_name { lines small.keeps_its_name
+        ≡ out (text (codes "function") ∷ truth false ∷ []) ∷ texts (codes "undefined") ∷ [] }
+    ensures has_a_prototype { lines small.has_a_prototype ≡ out (number 2 ∷ truth true ∷ number 1
+        ∷ truth false ∷ truth false ∷ []) ∷ texts tree.x ∷ [] }
+    ensures returns_from_new { lines small.returns_from_new
+        ≡ out (number 2 ∷ number 1 ∷ truth true ∷ []) ∷ [] }
+    ensures no_constructor { caught (small.constructs (dot (tree.name (codes "Math"))
+        (codes "abs"))) ≡ texts (codes "TypeError") ∷ [] }
+    ensures host_is_no_constructor { caught (small.constructs (dot (tree.name (codes "host"))
+        (codes "out"))) ≡ texts (codes "TypeError") ∷ [] }
+    ensures object_is_no_constructor { caught (small.constructs (tree.name (codes "Math")))
+        ≡ texts (codes "TypeError") ∷ [] }
+    ensures steps_of_no_constructor { end_of (small.constructs (dot (tree.name (codes "Math"))
+        (codes "abs"))) ≡ (Ended, 6) }
+    ensures wrapper { end_of (small.constructs (tree.name (codes "Number")))
+        ≡ (Stopped reason.Wrapper, 6) }
+    ensures constructed { values small.constructed
+        ≡ out (number 3 ∷ truth true ∷ text tree.x ∷ []) ∷ [] }
+    ensures lengths { values small.lengths
+        ≡ out (number 0 ∷ number 2 ∷ number 1 ∷ number 2 ∷ []) ∷ [] }
+{}
+
+/// `this`, `call` and `apply`.
+pub fn applications()
+    ensures applied { behind small.chooses_by_this small.applied ≡ out (number 1 ∷ number 2
+        ∷ number 1 ∷ number 2 ∷ shown.Undefined ∷ shown.Undefined ∷ []) ∷ [] }
+    ensures this_of_a_call { lines small.this_of_a_call ≡ out (truth true ∷ []) ∷ [] }
+    ensures this_of_a_caught_call { lines small.this_of_a_caught_call
+        ≡ out (truth true ∷ []) ∷ [] }
+    ensures list_of_an_object { caught (small.applies empty) ≡ texts (codes "TypeError") ∷ [] }
+    ensures list_of_a_number { caught (small.applies one) ≡ texts (codes "TypeError") ∷ [] }
+    ensures list_of_undefined { caught (small.applies nothing) ≡ [] }
+    ensures no_function { caught small.applies_no_function ≡ texts (codes "TypeError") ∷ [] }
+    ensures a_text { end_of small.applies_a_text ≡ (Stopped reason.Wrapper, 14) }
+    ensures three { end_of small.applies_three ≡ (Ended, 15) }
+    ensures with_three { end_of small.calls_with_three ≡ (Ended, 11) }
+    ensures a_number { caught (small.calls_value one) ≡ texts (codes "TypeError") ∷ [] }
+    ensures an_object { caught (small.calls_value empty) ≡ texts (codes "TypeError") ∷ [] }
+    ensures nothing_there { caught (small.calls_value (dot (tree.name (codes "host"))
+        (codes "nope"))) ≡ texts (codes "TypeError") ∷ [] }
+    ensures steps_of_no_call { end_of (small.calls_value one) ≡ (Ended, 4) }
+{}
