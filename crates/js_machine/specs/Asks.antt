@@ -97,9 +97,13 @@ pub data Program : Type 0 where
   Open : (names : List Name) → (chain : List ℕ) → (k : ℕ → Program) → Program
   Fix : (scope : ℕ) → (p : Program) → Program
 
-  -- objects: a new one, and a new function of a script
+  -- what the entry of a function binds: the answer is the scope of its body
+  Activate : (code : Func) → (chain : List ℕ) → (args : List Value) → (k : ℕ → Program) → Program
+
+  -- objects: a new one, a new function of a script, and the one that `new` makes of a function
   Make : (object : Object) → (k : ℕ → Program) → Program
-  MakeFunction : (object : Object) → (code : Func) → (chain : List ℕ) → (k : ℕ → Program) → Program
+  MakeFunction : (code : Func) → (chain : List ℕ) → (k : ℕ → Program) → Program
+  MakeNew : (f : ℕ) → (k : ℕ → Program) → Program
   -- [[Get]], None where no property is met; [[Put]], false where a RangeError is due; [[Delete]];
   -- [[HasProperty]]
   Get : (o : ℕ) → (name : Name) → (k : Option Value → Program) → Program

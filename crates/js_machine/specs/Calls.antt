@@ -7,9 +7,10 @@ use Rattle.object_heap.specs.declared.object.Class.TheVariants as class
 use Rattle.object_heap.specs.BuiltIns.{number_of}
 use Rattle.object_heap.specs.Changes.{new_object}
 use Rattle.object_heap.specs.Names.{Name, prototype_name}
+use Rattle.js_calls.specs.Construct.{result_of}
 use Rattle.js_tree.specs.Tree.{Expr, Exprs, NoExprs, MoreExprs}
 use Rattle.js_tree.specs.Tree as tree
-use Rattle.js_machine.specs.Asks.{Program, Ret, Tick, Enter, Make, KindOf, Env, Outcome, Kind}
+use Rattle.js_machine.specs.Asks.{Program, Ret, Tick, Enter, MakeNew, KindOf, Env, Outcome, Kind}
 use Rattle.js_machine.specs.Asks.{NotObject, NotFunction, ScriptFunction, NativeFunction}
 use Rattle.js_machine.specs.Asks.{HostFunction}
 use Rattle.js_machine.specs.State.{object_value}
@@ -71,25 +72,18 @@ call callee es env = do
 
 -- ---- 11.2.2
 
--- 13.2.2, steps 2 to 5: what is behind the new object
-abbrev pub prototype_for : Value → ℕ
-prototype_for (value.Object o) = o.0
-prototype_for v = number_of built.ObjectPrototype
+-- 13.2.2, steps 7 and 8: the function's result where it is an object, else the new object
+abbrev pub result_or : ℕ → Value → Program
+result_or new v = gives (result_of (object_value new) v)
 
--- 13.2.2, steps 7 and 8: the result of the function where it is an object, else the new object
-abbrev pub object_or : ℕ → Value → Program
-object_or made (value.Object o) = gives (value.Object o)
-object_or made v = gives (object_value made)
-
-abbrev pub constructed : ℕ → Outcome → Program
-constructed made = on_value (object_or made)
+abbrev pub after_construction : ℕ → Outcome → Program
+after_construction new = on_value (result_or new)
 
 -- 13.2.2 [[Construct]]
 abbrev pub construct_script : ℕ → List Value → Program
 construct_script f args = do
-  prototype ← get f prototype_name
-  made ← Make (new_object class.Plain (Some (prototype_for prototype)))
-  Enter (object_value f) (object_value made) args (constructed made)
+  new ← MakeNew f
+  Enter (object_value f) (object_value new) args (after_construction new)
 
 -- steps 4 to 6
 abbrev pub construct : ℕ → List Value → Kind → Program

@@ -37,74 +37,7 @@ use Rattle.js_machine.specs.Statements.{statements}
 use Rattle.js_machine.specs.Applying.{apply, call}
 use Rattle.js_machine.specs.Embed.{embed}
 
--- ---- 10.1.8, the object `arguments`, hidden as a whole
-
-abbrev pub arguments_name : Name
-arguments_name = codes "arguments"
-
--- an index that is also below the count of formals shares its value with that formal, whose slot is
--- one more, since `arguments` comes before
-abbrev pub indices : ℕ → ℕ → List Name → List Value → List Property
-indices index scope formals [] = []
-indices index scope [] (v ∷ vs) =
-    holding (decimal index) v hidden_only ∷ indices (suc index) scope [] vs
-indices index scope (name ∷ formals) (v ∷ vs) =
-    sharing index scope (suc index) ∷ indices (suc index) scope formals vs
-
-abbrev pub arguments_object : ℕ → List Name → List Value → Object
-arguments_object scope formals args = record {
-  class = class.Arguments;
-  prototype = Some (number_of built.ObjectPrototype);
-  properties = holding length_name (whole (length args)) hidden_only
-      ∷ indices 0 scope formals args;
-}
-
--- ---- 10.1.3, in the order that is said there
-
--- formals without an argument stay undefined
-abbrev pub bind_formals : List Name → List Value → ℕ → Program → Program
-bind_formals [] args scope p = p
-bind_formals (name ∷ formals) [] scope p = p
-bind_formals (name ∷ formals) (v ∷ vs) scope p =
-    Write (scope ∷ []) name v (bind_formals formals vs scope p)
-
-abbrev pub bind_function : Option Name → ℕ → Value → Program → Program
-bind_function None scope v p = p
-bind_function (Some name) scope v p = Write (scope ∷ []) name v p
-
-abbrev pub bind_functions : List Func → ℕ → List ℕ → Program → Program
-bind_functions [] scope chain p = p
-bind_functions (code ∷ rest) scope chain p = do
-  f ← make_function code chain
-  bind_function (name_of code) scope (object_value f)
-  bind_functions rest scope chain p
-
--- the names of a function's scope
-abbrev pub names_bound : List Name → Stmts → List Name
-names_bound formals body =
-    arguments_name ∷ (formals ++ (names_of (functions_of body) ++ vars_in_all body))
-
--- 10.2.3: a new scope, what is bound in it, and the body
-abbrev pub run_body : List Name → Stmts → List ℕ → Value → List Value → Program
-run_body formals body chain this args = do
-  scope ← Open (names_bound formals body) chain
-  arguments ← Make (arguments_object scope formals args)
-  Write (scope ∷ []) arguments_name (object_value arguments)
-  bind_formals formals args scope
-  bind_functions (functions_of body) scope (scope ∷ chain)
-  statements body (record { chain = scope ∷ chain; this = this })
-
 -- ---- 13.2.1 [[Call]], of a script's function
-
--- an undefined or null `this` is the global object (10.2.3); another primitive one would have to be
--- put into an object, which stops
-abbrev pub with_this : Value → Asks Value
-with_this value.Undefined k = k global_value
-with_this value.Null k = k global_value
-with_this (value.Bool b) k = Stop Wrapper
-with_this (value.Num n) k = Stop Wrapper
-with_this (value.Str text) k = Stop Wrapper
-with_this (value.Object o) k = k (value.Object o)
 
 -- the entries of late functions and wrappers have no beat and no mark; that of a stub is the entry
 -- of its number
@@ -114,11 +47,14 @@ counted role.Stub number p = TellEntry number p
 counted role.Wrapper number p = p
 counted role.Late number p = p
 
+-- a primitive `this` that is neither undefined nor null stops the run before the beat (10.2.3); then
+-- all is bound in a new scope (10.1.3), and the body runs
 abbrev pub enter_code : Func → List ℕ → Value → List Value → Program
 enter_code (Code number name formals body role) chain this args = do
-  this ← with_this this
+  this ← or_stop (this_at_entry this)
   counted role number
-  run_body formals body chain this args
+  scope ← Activate (Code number name formals body role) chain args
+  statements body (record { chain = scope ∷ chain; this = this })
 
 -- steps 4 to 7: what the call gives
 abbrev pub returned : Completion → Program
@@ -164,7 +100,7 @@ define_function (Some name) v p = Define global_object name v declared p
 abbrev pub define_functions : List Func → List ℕ → Program → Program
 define_functions [] chain p = p
 define_functions (code ∷ rest) chain p = do
-  f ← make_function code chain
+  f ← MakeFunction code chain
   define_function (name_of code) (object_value f)
   define_functions rest chain p
 

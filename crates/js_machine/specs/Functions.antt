@@ -1,4 +1,4 @@
--- Function objects (ES3 13).
+-- Function expressions (ES3 13).
 use Rattle.std.specs.Prelude.{ℕ, List, [], ◌∷◌, length, Option, Some, None}
 use Rattle.object_heap.specs.declared.built_in.BuiltIn.TheVariants as built
 use Rattle.object_heap.specs.declared.object.Class.TheVariants as class
@@ -14,34 +14,6 @@ use Rattle.js_machine.specs.Asks.{TellNeed}
 use Rattle.js_machine.specs.State.{object_value}
 use Rattle.js_machine.specs.Frames.{Asks, ◌>>=◌, ◌>>◌, gives}
 
--- ---- 13.2 Creating Function Objects
-
--- its `length` is the count of its formals
-abbrev pub function_object : ℕ → Object
-function_object formals = record {
-  class = class.Function;
-  prototype = Some (number_of built.FunctionPrototype);
-  properties = holding length_name (whole formals) all_three ∷ [];
-}
-
--- the object that a new one of the function has behind it (steps 9 and 10)
-abbrev pub prototype_object : ℕ → Object
-prototype_object f = record {
-  class = class.Plain;
-  prototype = Some (number_of built.ObjectPrototype);
-  properties = holding constructor_name (object_value f) hidden_only ∷ [];
-}
-
-abbrev pub count_of_formals : Func → ℕ
-count_of_formals (Code number name formals body role) = length formals
-
-abbrev pub make_function : Func → List ℕ → Asks ℕ
-make_function code chain k = do
-  f ← MakeFunction (function_object (count_of_formals code)) code chain
-  prototype ← Make (prototype_object f)
-  Define f prototype_name (object_value prototype) hidden_and_fixed
-  k f
-
 -- ---- 13, a function expression
 
 abbrev pub name_of : Func → Option Name
@@ -49,10 +21,10 @@ name_of (Code number name formals body role) = name
 
 -- its name, if it has one, is read-only in a scope of its own
 abbrev pub named_function : Option Name → Func → List ℕ → Asks ℕ
-named_function None code chain k = make_function code chain k
+named_function None code chain k = MakeFunction code chain k
 named_function (Some name) code chain k = do
   scope ← Open (name ∷ []) chain
-  f ← make_function code (scope ∷ chain)
+  f ← MakeFunction code (scope ∷ chain)
   Write (scope ∷ []) name (object_value f)
   Fix scope
   k f
@@ -69,7 +41,7 @@ as_late (Code number name formals body stands) = Code number None formals body r
 
 abbrev pub made_late : Option Func → List ℕ → Asks ℕ
 made_late None chain k = Broken
-made_late (Some code) chain k = make_function (as_late code) chain k
+made_late (Some code) chain k = MakeFunction (as_late code) chain k
 
 abbrev pub late_function : ℕ → Env → Program
 late_function number env = do

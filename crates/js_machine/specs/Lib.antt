@@ -13,7 +13,6 @@ pub mod Expressions
 pub mod Loops
 pub mod Statements
 pub mod Applying
-pub mod Declared
 pub mod Entries
 pub mod Programs
 pub mod Run

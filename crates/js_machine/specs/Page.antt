@@ -33,11 +33,18 @@ pub record Page : Type 0 where
 
 -- ---- before the first step
 
--- a host call is a function of `length` 0 and a hidden property of `host`
+-- a host call is a function of `length` 0, without a `prototype`, and a hidden property of `host`
+abbrev pub host_function : Object
+host_function = record {
+  class = class.Function;
+  prototype = Some (number_of built.FunctionPrototype);
+  properties = holding length_name (whole 0) all_three ∷ [];
+}
+
 abbrev pub with_host_call : Name → State → State
 with_host_call name s = record s {
   heap = defined (number_of built.Host) name (object_value (length s.heap)) hidden_only
-      (s.heap ++ function_object 0 ∷ []);
+      (s.heap ++ host_function ∷ []);
   bodies = (length s.heap, OfHost name) ∷ s.bodies;
 }
 

@@ -21,13 +21,13 @@ use Rattle.js_tree.specs.Tree.{Func}
 use Rattle.js_machine.specs.Asks.{Program, Ret, Begin, Tail, Turn, Enter, Tick, Under, Stop, Broken}
 use Rattle.js_machine.specs.Asks.{TellCall, TellUncaught, TellIdle, TellEvent, TellEntry, TellUse}
 use Rattle.js_machine.specs.Asks.{TellNeed, CountTurn, Listen, Listeners, Find, Write, Open, Fix}
-use Rattle.js_machine.specs.Asks.{Make, MakeFunction, Get, Put, Delete, Has, Define, Own, Visible}
+use Rattle.js_machine.specs.Asks.{Activate, Make, MakeFunction, MakeNew, Get, Put, Delete, Has, Define, Own, Visible}
 use Rattle.js_machine.specs.Asks.{KindOf, Compare, Behind, Outcome, Ends}
 use Rattle.js_machine.specs.State
 use Rattle.js_machine.specs.State.{object_value, callee_of, kind_of, property_value, listening}
 use Rattle.js_machine.specs.State.{is_length, with_step, with_beat, with_passed, with_call}
 use Rattle.js_machine.specs.State.{with_listener, with_heap, with_scopes, with_object}
-use Rattle.js_machine.specs.State.{with_function, with_put, with_scope, with_write}
+use Rattle.js_machine.specs.State.{with_function, with_new, with_entry, with_put, with_scope, with_write}
 use Rattle.js_machine.specs.References.{error_object}
 use Rattle.js_machine.specs.Loops.{first_of_turn, waits_in_turn}
 use Rattle.js_machine.specs.Entries.{entry}
@@ -140,12 +140,15 @@ go world next (Find chain name k) ret ks s =
 go world next (Write chain name v p) ret ks s = go world next p ret ks (with_write chain name v s)
 go world next (Open names chain k) ret ks s =
     go world next (k (length s.scopes)) ret ks (with_scope names chain s)
+go world next (Activate code chain args k) ret ks s =
+    go world next (k (length s.scopes)) ret ks (with_entry code chain args s)
 go world next (Fix scope p) ret ks s =
     go world next p ret ks (with_scopes (fixed_at scope s.scopes) s)
 go world next (Make object k) ret ks s =
     go world next (k (length s.heap)) ret ks (with_object object s)
-go world next (MakeFunction object code chain k) ret ks s =
-    go world next (k (length s.heap)) ret ks (with_function object code chain s)
+go world next (MakeFunction code chain k) ret ks s =
+    go world next (k (length s.heap)) ret ks (with_function code chain s)
+go world next (MakeNew f k) ret ks s = go world next (k (length s.heap)) ret ks (with_new f s)
 go world next (Get o name k) ret ks s = go world next (k (property_value s o name)) ret ks s
 go world next (Put o name v k) ret ks s =
     go world next (k (is_length (heap_put.put s.heap o name v))) ret ks

@@ -14,7 +14,12 @@ use Rattle.object_heap.specs.Get.{get}
 use Rattle.object_heap.specs.Put as heap_put
 use Rattle.scope_arena.specs.Scopes.{Scopes, entered, value_at, written_at}
 use Rattle.scope_arena.specs.Search.{with_name}
-use Rattle.js_tree.specs.Tree.{Func}
+use Rattle.js_tree.specs.Tree.{Func, Code, Stmts}
+use Rattle.js_calls.specs.Construct.{constructed}
+use Rattle.js_calls.specs.Declared.{functions_of}
+use Rattle.js_calls.specs.Entry.{Entered, entry_of}
+use Rattle.js_calls.specs.FunctionObjects as function_objects
+use Rattle.js_calls.specs.FunctionObjects.{formals_of}
 use Rattle.js_machine.specs.Asks.{Kind, NotObject, NotFunction, ScriptFunction, NativeFunction}
 use Rattle.js_machine.specs.Asks.{HostFunction}
 
@@ -119,6 +124,9 @@ listening (l ∷ ls) type = if is_same_name l.0 type then l.1 ∷ listening ls t
 
 -- ---- changes
 
+abbrev pub body_of : Func → Stmts
+body_of (Code number name formals body role) = body
+
 abbrev pub with_step : State → State
 with_step s = record s { steps = suc s.steps }
 
@@ -145,11 +153,35 @@ with_scopes scopes s = record s { scopes = scopes }
 abbrev pub with_object : Object → State → State
 with_object object s = record s { heap = s.heap ++ object ∷ [] }
 
-abbrev pub with_function : Object → Func → List ℕ → State → State
-with_function object code chain s = record s {
-  heap = s.heap ++ object ∷ [];
+-- a function, and behind it the object that is its `prototype` (ES3 13.2)
+abbrev pub with_function : Func → List ℕ → State → State
+with_function code chain s = record s {
+  heap = function_objects.with_function (length (formals_of code)) s.heap;
   bodies = (length s.heap, OfScript code chain) ∷ s.bodies;
 }
+
+-- the object that `new` makes of a function (ES3 13.2.2)
+abbrev pub with_new : ℕ → State → State
+with_new f s = record s { heap = constructed f s.heap }
+
+-- what an entry binds (ES3 10.1.3), and with it the bodies of the functions that it declares, which
+-- are made in its scope
+abbrev pub with_bodies : List ℕ → List Func → List ℕ → List (ℕ × Body) → List (ℕ × Body)
+with_bodies [] codes chain bodies = bodies
+with_bodies (o ∷ os) [] chain bodies = bodies
+with_bodies (o ∷ os) (code ∷ codes) chain bodies =
+    with_bodies os codes chain ((o, OfScript code chain) ∷ bodies)
+
+abbrev pub with_entered : Entered → Func → List ℕ → State → State
+with_entered e code chain s = record s {
+  heap = e.heap;
+  scopes = e.scopes;
+  bodies = with_bodies e.functions (functions_of (body_of code)) (e.scope ∷ chain) s.bodies;
+}
+
+abbrev pub with_entry : Func → List ℕ → List Value → State → State
+with_entry code chain args s =
+    with_entered (entry_of code (slice_get chain 0) args s.heap s.scopes) code chain s
 
 abbrev pub with_put : heap_put.Put → Value → State → State
 with_put put v s = record s {

@@ -12,3 +12,4 @@ pub mod MathNatives
 pub mod Errors
 pub mod Globals
 pub mod Natives
+pub mod Rows

@@ -1,0 +1,6 @@
+pub mod Declared
+pub mod FunctionObjects
+pub mod Entry
+pub mod Construct
+pub mod Apply
+pub mod Rows
