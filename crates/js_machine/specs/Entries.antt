@@ -1,7 +1,5 @@
 -- Entries of functions (ES3 10.1, 10.2, 13.2.1): what runs once the step of the entry is taken.
-use Rattle.std.specs.Prelude.{ℕ, suc, List, [], ◌∷◌, ◌++◌, length, codes, Option, Some, None}
-use Rattle.std.specs.Prelude.{option_map, false, true}
-use Rattle.js_values.specs.declared.reason.Reason.TheVariants.{Wrapper}
+use Rattle.std.specs.Prelude.{ℕ, false, true, List, [], ◌∷◌, Option, Some, None, option_map}
 use Rattle.js_values.specs.declared.value.Value.{Value}
 use Rattle.js_values.specs.declared.value.Value.TheVariants as value
 use Rattle.exceptions_core.specs.declared.completion.Completion.{Completion}
@@ -11,28 +9,24 @@ use Rattle.exceptions_core.specs.declared.completion.Completion.TheVariants.{Thr
 use Rattle.exceptions_core.specs.declared.completion.Frame.TheVariants as frame
 use Rattle.exceptions_core.specs.declared.completion.Landing.{Landing}
 use Rattle.exceptions_core.specs.declared.completion.Landing.TheVariants as landing
-use Rattle.object_heap.specs.declared.built_in.BuiltIn.TheVariants as built
 use Rattle.object_heap.specs.declared.object.Attrs.{Attrs}
-use Rattle.object_heap.specs.declared.object.Class.TheVariants as class
-use Rattle.object_heap.specs.Arrays.{whole}
-use Rattle.object_heap.specs.BuiltIns.{number_of}
-use Rattle.object_heap.specs.Changes.{holding, sharing, hidden_only}
-use Rattle.object_heap.specs.Names.{Name, length_name, decimal}
-use Rattle.object_heap.specs.Objects.{Property, Object}
+use Rattle.object_heap.specs.Names.{Name}
 use Rattle.js_natives.specs.declared.native.Native.{Native}
 use Rattle.js_natives.specs.declared.native.Native.TheVariants as native
 use Rattle.js_natives.specs.Natives.{calls_of, program_of}
 use Rattle.js_tree.specs.declared.tree.Role.{Role}
 use Rattle.js_tree.specs.declared.tree.Role.TheVariants as role
 use Rattle.js_tree.specs.Tree.{Func, Code, Stmts}
-use Rattle.js_machine.specs.Asks.{Program, Under, Stop, TellCall, TellEntry, Open, Write, Make, Own}
+use Rattle.js_calls.specs.Declared.{functions_of, vars_in_all}
+use Rattle.js_calls.specs.Entry.{this_at_entry}
+use Rattle.js_machine.specs.Asks.{Program, Under, TellCall, TellEntry, Activate, MakeFunction, Own}
 use Rattle.js_machine.specs.Asks.{Define, Env, Outcome}
 use Rattle.js_machine.specs.State.{object_value, Callee}
 use Rattle.js_machine.specs.State as state
 use Rattle.js_machine.specs.Frames.{Asks, ◌>>=◌, ◌>>◌, gives, completes, at_frame}
-use Rattle.js_machine.specs.References.{global_object, global_value}
-use Rattle.js_machine.specs.Functions.{make_function, name_of}
-use Rattle.js_machine.specs.Declared.{functions_of, names_of, vars_in_all}
+use Rattle.js_machine.specs.References.{global_object}
+use Rattle.js_machine.specs.Conversions.{or_stop}
+use Rattle.js_machine.specs.Functions.{name_of}
 use Rattle.js_machine.specs.Statements.{statements}
 use Rattle.js_machine.specs.Applying.{apply, call}
 use Rattle.js_machine.specs.Embed.{embed}

@@ -1,5 +1,5 @@
 -- The run of a page: its scripts, then what happens when they are over, then its events.
-use Rattle.std.specs.Prelude.{ℕ, suc, List, [], ◌∷◌, ◌++◌, length, None}
+use Rattle.std.specs.Prelude.{ℕ, suc, List, [], ◌∷◌, ◌++◌, length, None, Some}
 use Rattle.js_values.specs.declared.value.Value.{Value}
 use Rattle.js_values.specs.declared.value.Value.TheVariants as value
 use Rattle.exceptions_core.specs.declared.completion.Completion.{Completion}
@@ -8,8 +8,11 @@ use Rattle.exceptions_core.specs.declared.completion.Completion.TheVariants.{Con
 use Rattle.exceptions_core.specs.declared.completion.Completion.TheVariants.{Throw}
 use Rattle.object_heap.specs.declared.built_in.BuiltIn.TheVariants as built
 use Rattle.object_heap.specs.BuiltIns.{number_of}
-use Rattle.object_heap.specs.Changes.{defined, hidden_only}
-use Rattle.object_heap.specs.Names.{Name}
+use Rattle.object_heap.specs.declared.object.Class.TheVariants as class
+use Rattle.object_heap.specs.Arrays.{whole}
+use Rattle.object_heap.specs.Changes.{defined, holding, hidden_only, all_three}
+use Rattle.object_heap.specs.Names.{Name, length_name}
+use Rattle.object_heap.specs.Objects.{Object}
 use Rattle.object_heap.specs.Start.{heap_at_start}
 use Rattle.scope_arena.specs.Scopes.{entered}
 use Rattle.js_tree.specs.Tree.{Func, Script}
@@ -17,7 +20,6 @@ use Rattle.js_machine.specs.Asks.{Program, Begin, Enter, TellUncaught, TellIdle,
 use Rattle.js_machine.specs.Asks.{Listeners, AScript, Outcome, Gives, Ends}
 use Rattle.js_machine.specs.State.{State, OfHost, object_value}
 use Rattle.js_machine.specs.Frames.{◌>>=◌, ◌>>◌, done}
-use Rattle.js_machine.specs.Functions.{function_object}
 use Rattle.js_machine.specs.References.{global_value}
 use Rattle.js_machine.specs.Run.{Trace, run}
 
