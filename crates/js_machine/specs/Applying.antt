@@ -1,5 +1,5 @@
 -- `call` and `apply` of Function.prototype (ES3 15.3.4.3, 15.3.4.4), which enter a function.
-use Rattle.std.specs.Prelude.{ℕ, zero, suc, ◌+◌, if◌then◌else◌, List, [], ◌∷◌, ◌++◌}
+use Rattle.std.specs.Prelude.{ℕ, zero, suc, if◌then◌else◌, List, [], ◌∷◌, ◌++◌}
 use Rattle.js_values.specs.declared.reason.Reason.TheVariants.{Wrapper}
 use Rattle.js_values.specs.declared.value.Value.{Value}
 use Rattle.js_values.specs.declared.value.Value.TheVariants as value
@@ -33,7 +33,7 @@ values_from zero index o done k = k done
 values_from (suc count) index o done k = do
   Tick
   v ← get o (decimal index)
-  values_from count (index + 1) o (done ++ v ∷ []) k
+  values_from count (suc index) o (done ++ v ∷ []) k
 
 abbrev pub values_in : ℕ → Asks (List Value)
 values_in o k = do

@@ -57,7 +57,6 @@ pub data Kind : Type 0 where
 pub data Program : Type 0 where
   -- the outcome of what was begun
   Ret : (o : Outcome) → Program
-
   -- these five take a step: a node is begun, a node is begun that ends as the running one does, the
   -- next turn of a loop, a function is entered (where it is none, a TypeError without a step), and a
   -- step of its own
@@ -66,13 +65,11 @@ pub data Program : Type 0 where
   Turn : (loop : Loop) → (env : Env) → Program
   Enter : (f : Value) → (this : Value) → (args : List Value) → (k : Outcome → Program) → Program
   Tick : (p : Program) → Program
-
   -- p runs, and k goes on with its outcome
   Under : (p : Program) → (k : Outcome → Program) → Program
   -- a stop (no `catch` and no `finally` sees it), and an entry that is not there
   Stop : (reason : Reason) → Program
   Broken : Program
-
   -- marks: a host call, which is answered; an exception that was not caught; after the scripts; an
   -- event; the entry of a numbered function, which is a beat; `$dl_use`; an entry that is needed,
   -- which is answered where it is there
@@ -85,21 +82,17 @@ pub data Program : Type 0 where
   TellNeed : (number : ℕ) → (k : Option Func → Program) → Program
   -- a turn of a loop is a beat too
   CountTurn : (p : Program) → Program
-
   -- listeners: one more, and those of a type
   Listen : (type : Name) → (f : ℕ) → (p : Program) → Program
   Listeners : (type : Name) → (k : List ℕ → Program) → Program
-
   -- scopes: the value of a name along a chain, if a scope has it; a write to such a name; a new
   -- scope, whose names are undefined; names that are read-only from now on
   Find : (chain : List ℕ) → (name : Name) → (k : Option Value → Program) → Program
   Write : (chain : List ℕ) → (name : Name) → (v : Value) → (p : Program) → Program
   Open : (names : List Name) → (chain : List ℕ) → (k : ℕ → Program) → Program
   Fix : (scope : ℕ) → (p : Program) → Program
-
   -- what the entry of a function binds: the answer is the scope of its body
   Activate : (code : Func) → (chain : List ℕ) → (args : List Value) → (k : ℕ → Program) → Program
-
   -- objects: a new one, a new function of a script, and the one that `new` makes of a function
   Make : (object : Object) → (k : ℕ → Program) → Program
   MakeFunction : (code : Func) → (chain : List ℕ) → (k : ℕ → Program) → Program

@@ -1,12 +1,8 @@
 -- Member access, calls and `new` (ES3 11.2), and the references of targets and callees.
-use Rattle.std.specs.Prelude.{ℕ, List, [], ◌∷◌, ◌++◌, Some}
+use Rattle.std.specs.Prelude.{ℕ, List, [], ◌∷◌, ◌++◌}
 use Rattle.js_values.specs.declared.value.Value.{Value}
 use Rattle.js_values.specs.declared.value.Value.TheVariants as value
-use Rattle.object_heap.specs.declared.built_in.BuiltIn.TheVariants as built
-use Rattle.object_heap.specs.declared.object.Class.TheVariants as class
-use Rattle.object_heap.specs.BuiltIns.{number_of}
-use Rattle.object_heap.specs.Changes.{new_object}
-use Rattle.object_heap.specs.Names.{Name, prototype_name}
+use Rattle.object_heap.specs.Names.{Name}
 use Rattle.js_calls.specs.Construct.{result_of}
 use Rattle.js_tree.specs.Tree.{Expr, Exprs, NoExprs, MoreExprs}
 use Rattle.js_tree.specs.Tree as tree
@@ -16,7 +12,7 @@ use Rattle.js_machine.specs.Asks.{HostFunction}
 use Rattle.js_machine.specs.State.{object_value}
 use Rattle.js_machine.specs.Frames.{Asks, ◌>>=◌, ◌>>◌, gives, on_value, value_of}
 use Rattle.js_machine.specs.References.{Reference, NoReference, InScope, OnBase, Unbound, resolve}
-use Rattle.js_machine.specs.References.{get, get_value, throws_type_error}
+use Rattle.js_machine.specs.References.{get_value, throws_type_error}
 use Rattle.js_machine.specs.Conversions.{to_object, to_name}
 use Rattle.js_machine.specs.Embed.{construct_native}
 

@@ -23,7 +23,7 @@ use Rattle.js_machine.specs.Asks.{Program, Under, TellCall, TellEntry, Activate,
 use Rattle.js_machine.specs.Asks.{Define, Env, Outcome}
 use Rattle.js_machine.specs.State.{object_value, Callee}
 use Rattle.js_machine.specs.State as state
-use Rattle.js_machine.specs.Frames.{Asks, ◌>>=◌, ◌>>◌, gives, completes, at_frame}
+use Rattle.js_machine.specs.Frames.{◌>>=◌, ◌>>◌, gives, completes, at_frame}
 use Rattle.js_machine.specs.References.{global_object}
 use Rattle.js_machine.specs.Conversions.{or_stop}
 use Rattle.js_machine.specs.Functions.{name_of}

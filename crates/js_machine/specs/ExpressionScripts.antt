@@ -135,7 +135,7 @@ abbrev pub this_of_calls : List Stmt
 this_of_calls =
     var o (object ((codes "m", function 1 [] (returns (same tree.This (name o)) ∷ [])) ∷ []))
     ∷ shows (call (dot (name o) (codes "m")) [] ∷ call (at (name o) (text (codes "m"))) []
-        ∷ call (tree.Comma (number 0) (dot (name o) (codes "m"))) [] ∷ []) ∷ []
+    ∷ call (tree.Comma (number 0) (dot (name o) (codes "m"))) [] ∷ []) ∷ []
 
 -- ---- 11.3, 11.4
 
@@ -207,7 +207,7 @@ abbrev pub order_of_assignment : List Stmt
 order_of_assignment =
     var o empty
     ∷ sets (at (tree.Comma (out (text o ∷ [])) (name o)) (spelled k (text x)))
-        (out (text (codes "v") ∷ [])) ∷ []
+    (out (text (codes "v") ∷ [])) ∷ []
 
 -- `function f(a){}f.length=5;"ab".x=1;var o={};o.a=1;` and then `f.length,"ab".x,o.a`
 abbrev pub writes : List Stmt

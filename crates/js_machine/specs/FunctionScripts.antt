@@ -28,7 +28,7 @@ declares_first =
 abbrev pub binds_in_order : List Stmt
 binds_in_order =
     declare 1 f (a ∷ b ∷ x ∷ []) (variable a ∷ var b (number 5) ∷ declare 2 x [] []
-        ∷ shows (name a ∷ name b ∷ unary prefix.TypeOf (name x) ∷ []) ∷ [])
+    ∷ shows (name a ∷ name b ∷ unary prefix.TypeOf (name x) ∷ []) ∷ [])
     ∷ calls (name f) (one ∷ two ∷ number 3 ∷ []) ∷ []
 
 -- `var valueOf;host.out(valueOf,typeof toString);`
@@ -46,14 +46,14 @@ abbrev pub declares_again : List Stmt
 declares_again =
     declare 1 a [] [] ∷ variable b ∷ visits k tree.This (shows (name k ∷ []))
     ∷ shows (unary prefix.Delete (name a) ∷ unary prefix.Delete (name b)
-        ∷ unary prefix.Delete (name k) ∷ []) ∷ []
+    ∷ unary prefix.Delete (name k) ∷ []) ∷ []
 
 -- `undefined=1;NaN=2;host.out(undefined,NaN,delete undefined,void 0);`
 abbrev pub writes_constants : List Stmt
 writes_constants =
     sets (name (codes "undefined")) one ∷ sets (name (codes "NaN")) two
     ∷ shows (name (codes "undefined") ∷ name (codes "NaN")
-        ∷ unary prefix.Delete (name (codes "undefined")) ∷ unary prefix.Void (number 0) ∷ []) ∷ []
+    ∷ unary prefix.Delete (name (codes "undefined")) ∷ unary prefix.Void (number 0) ∷ []) ∷ []
 
 -- ---- 10.1.8
 
@@ -63,18 +63,18 @@ writes_constants =
 abbrev pub shares : List Stmt
 shares =
     declare 1 f (x ∷ []) (sets (name x) two
-        ∷ shows (at arguments (number 0) ∷ dot arguments (codes "length") ∷ at arguments one ∷ [])
-        ∷ does (unary prefix.Delete (at arguments (number 0)))
-        ∷ sets (at arguments (number 0)) (number 5)
-        ∷ shows (name x ∷ at arguments (number 0) ∷ [])
-        ∷ visits k arguments (shows (name k ∷ [])) ∷ [])
+    ∷ shows (at arguments (number 0) ∷ dot arguments (codes "length") ∷ at arguments one ∷ [])
+    ∷ does (unary prefix.Delete (at arguments (number 0)))
+    ∷ sets (at arguments (number 0)) (number 5)
+    ∷ shows (name x ∷ at arguments (number 0) ∷ [])
+    ∷ visits k arguments (shows (name k ∷ [])) ∷ [])
     ∷ calls (name f) (one ∷ number 3 ∷ []) ∷ []
 
 -- `function f(a,b){b=2;host.out(arguments.length,arguments[1],a,b);}f();`
 abbrev pub shares_nothing : List Stmt
 shares_nothing =
     declare 1 f (a ∷ b ∷ []) (sets (name b) two
-        ∷ shows (dot arguments (codes "length") ∷ at arguments one ∷ name a ∷ name b ∷ []) ∷ [])
+    ∷ shows (dot arguments (codes "length") ∷ at arguments one ∷ name a ∷ name b ∷ []) ∷ [])
     ∷ calls (name f) [] ∷ []
 
 -- ---- 13, 13.2
@@ -83,7 +83,7 @@ shares_nothing =
 abbrev pub keeps_its_name : List Stmt
 keeps_its_name =
     calls (tree.Function (Code 1 (Some f) [] (block (sets (name f) one
-        ∷ shows (unary prefix.TypeOf (name f) ∷ unary prefix.Delete (name f) ∷ []) ∷ [])) Plain)) []
+    ∷ shows (unary prefix.TypeOf (name f) ∷ unary prefix.Delete (name f) ∷ []) ∷ [])) Plain)) []
     ∷ shows (unary prefix.TypeOf (name f) ∷ []) ∷ []
 
 -- `function f(a,b){}for(var k in f)host.out(k);f.prototype.x=1;`
@@ -94,9 +94,9 @@ has_a_prototype =
     declare 1 f (a ∷ b ∷ []) [] ∷ visits k (name f) (shows (name k ∷ []))
     ∷ sets (dot (dot (name f) (codes "prototype")) x) one
     ∷ shows (dot (name f) (codes "length")
-        ∷ same (dot (dot (name f) (codes "prototype")) (codes "constructor")) (name f)
-        ∷ dot (new (name f) []) x ∷ unary prefix.Delete (dot (name f) (codes "prototype"))
-        ∷ unary prefix.Delete (dot (name f) (codes "length")) ∷ [])
+    ∷ same (dot (dot (name f) (codes "prototype")) (codes "constructor")) (name f)
+    ∷ dot (new (name f) []) x ∷ unary prefix.Delete (dot (name f) (codes "prototype"))
+    ∷ unary prefix.Delete (dot (name f) (codes "length")) ∷ [])
     ∷ visits k (new (name f) []) (shows (name k ∷ [])) ∷ []
 
 -- `function f(x){this.x=1;return x;}var o={x:2};f.prototype=1;`
@@ -106,7 +106,7 @@ returns_from_new =
     declare 1 f (x ∷ []) (sets (dot tree.This x) one ∷ returns (name x) ∷ [])
     ∷ var o (object ((x, two) ∷ [])) ∷ sets (dot (name f) (codes "prototype")) one
     ∷ shows (dot (new (name f) (name o ∷ [])) x ∷ dot (new (name f) (number 3 ∷ [])) x
-        ∷ binary op.InstanceOf (new (name f) []) (name (codes "Object")) ∷ []) ∷ []
+    ∷ binary op.InstanceOf (new (name f) []) (name (codes "Object")) ∷ []) ∷ []
 
 -- `new Math.abs(1);`, `new host.out(1);`, `new Math(1);`
 abbrev pub constructs : Expr → List Stmt
@@ -126,7 +126,7 @@ constructed =
 abbrev pub chooses_by_this : List Stmt
 chooses_by_this =
     declare 1 f (a ∷ b ∷ [])
-        (returns (tree.Cond (same tree.This (name o)) (name a) (name b)) ∷ [])
+    (returns (tree.Cond (same tree.This (name o)) (name a) (name b)) ∷ [])
     ∷ var o empty ∷ []
 
 abbrev pub applied : List Expr
@@ -135,7 +135,7 @@ applied =
     ∷ call (dot (name f) (codes "call")) (tree.Null ∷ one ∷ two ∷ [])
     ∷ call (dot (name f) (codes "apply")) (name o ∷ array (one ∷ two ∷ []) ∷ [])
     ∷ call (dot (name f) (codes "apply"))
-        (name (codes "undefined") ∷ array (one ∷ two ∷ []) ∷ [])
+    (name (codes "undefined") ∷ array (one ∷ two ∷ []) ∷ [])
     ∷ call (dot (name f) (codes "apply")) (name o ∷ []) ∷ call (dot (name f) (codes "call")) []
     ∷ []
 
@@ -165,7 +165,7 @@ applies_no_function =
 abbrev pub applies_a_text : List Stmt
 applies_a_text =
     sets (dot (dot (name (codes "String")) (codes "prototype")) x)
-        (dot (dot (name (codes "Math")) (codes "abs")) (codes "apply"))
+    (dot (dot (name (codes "Math")) (codes "abs")) (codes "apply"))
     ∷ calls (dot (text a) x) [] ∷ []
 
 -- `function f(){}f.apply(null,[1,2,3]);` and `function f(){}f.call(null,1,2,3);`
@@ -173,7 +173,7 @@ abbrev pub applies_three : List Stmt
 applies_three =
     declare 1 f [] []
     ∷ calls (dot (name f) (codes "apply"))
-        (tree.Null ∷ array (one ∷ two ∷ number 3 ∷ []) ∷ []) ∷ []
+    (tree.Null ∷ array (one ∷ two ∷ number 3 ∷ []) ∷ []) ∷ []
 
 abbrev pub calls_with_three : List Stmt
 calls_with_three =

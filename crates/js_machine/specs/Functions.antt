@@ -1,15 +1,9 @@
 -- Function expressions (ES3 13).
-use Rattle.std.specs.Prelude.{ℕ, List, [], ◌∷◌, length, Option, Some, None}
-use Rattle.object_heap.specs.declared.built_in.BuiltIn.TheVariants as built
-use Rattle.object_heap.specs.declared.object.Class.TheVariants as class
-use Rattle.object_heap.specs.Arrays.{whole}
-use Rattle.object_heap.specs.BuiltIns.{number_of}
-use Rattle.object_heap.specs.Changes.{holding, hidden_only, hidden_and_fixed, all_three}
-use Rattle.object_heap.specs.Names.{Name, length_name, prototype_name, constructor_name}
-use Rattle.object_heap.specs.Objects.{Object}
+use Rattle.std.specs.Prelude.{ℕ, List, [], ◌∷◌, Option, Some, None}
+use Rattle.object_heap.specs.Names.{Name}
 use Rattle.js_tree.specs.Tree.{Func, Code}
 use Rattle.js_tree.specs.declared.tree.Role.TheVariants as role
-use Rattle.js_machine.specs.Asks.{Program, Make, MakeFunction, Define, Open, Write, Fix, Broken, Env}
+use Rattle.js_machine.specs.Asks.{Program, MakeFunction, Open, Write, Fix, Broken, Env}
 use Rattle.js_machine.specs.Asks.{TellNeed}
 use Rattle.js_machine.specs.State.{object_value}
 use Rattle.js_machine.specs.Frames.{Asks, ◌>>=◌, ◌>>◌, gives}

@@ -10,6 +10,7 @@ pub mod Embed
 pub mod Calls
 pub mod Unary
 pub mod Expressions
+pub mod Variables
 pub mod Loops
 pub mod Statements
 pub mod Applying
@@ -28,3 +29,4 @@ pub mod OperatorScripts
 pub mod StatementScripts
 pub mod FunctionScripts
 pub mod PageScripts
+pub mod Laws

@@ -13,8 +13,8 @@ use Rattle.object_heap.specs.declared.object.Attrs.{Attrs}
 use Rattle.object_heap.specs.BuiltIns.{number_of}
 use Rattle.object_heap.specs.Names.{Name}
 use Rattle.object_heap.specs.Visited.{Visit}
-use Rattle.js_tree.specs.Tree.{Expr, MaybeExpr, NoExpr, AnExpr, Stmt, VarItems, NoVarItems}
-use Rattle.js_tree.specs.Tree.{MoreVarItems, ForInit, Nothing, Vars, First, ForTarget, AVar, Target}
+use Rattle.js_tree.specs.Tree.{Expr, MaybeExpr, NoExpr, AnExpr, Stmt}
+use Rattle.js_tree.specs.Tree.{ForInit, Nothing, Vars, First, ForTarget, AVar, Target}
 use Rattle.js_machine.specs.Asks as ask
 use Rattle.js_machine.specs.Asks.{Program, Begin, Tail, Turn, Own, Visible, Node, ATurn, Loop, Env}
 use Rattle.js_machine.specs.Asks.{Outcome}
@@ -23,22 +23,7 @@ use Rattle.js_machine.specs.Frames.{at_frame}
 use Rattle.js_machine.specs.References.{resolve, put_value}
 use Rattle.js_machine.specs.Conversions.{to_object}
 use Rattle.js_machine.specs.Calls.{reference}
-
--- ---- 12.2: a declarator with an initialiser writes to its name; its name is no node
-
-abbrev pub variable : Name → MaybeExpr → Env → Program → Program
-variable name NoExpr env p = p
-variable name (AnExpr e) env p = do
-  it ← resolve env.chain name
-  v ← value_of e env
-  put_value it v
-  p
-
-abbrev pub variables : VarItems → Env → Program → Program
-variables NoVarItems env p = p
-variables (MoreVarItems name e rest) env p = do
-  variable name e env
-  variables rest env p
+use Rattle.js_machine.specs.Variables.{variable, variables}
 
 -- ---- loops with a test or none
 

@@ -68,9 +68,9 @@ with_objects =
     ∷ binary op.Equal (name o) (text (codes "[object Object]"))
     ∷ binary op.Equal (object ((value_of, function 1 [] (returns one ∷ [])) ∷ [])) one
     ∷ binary op.Equal (text (codes "2"))
-        (object ((value_of, function 1 [] (returns two ∷ [])) ∷ []))
+    (object ((value_of, function 1 [] (returns two ∷ [])) ∷ []))
     ∷ binary op.Equal (tree.Truth true)
-        (object ((value_of, function 1 [] (returns one ∷ [])) ∷ [])) ∷ []
+    (object ((value_of, function 1 [] (returns one ∷ [])) ∷ [])) ∷ []
 
 -- `[] instanceof Object,1 instanceof Object,host.out instanceof Object,"a" in {a:1},"toString" in {},`
 -- `"b" in {a:1}`

@@ -37,6 +37,10 @@ ask es = call (dot (name (codes "host")) (codes "ask")) es
 abbrev pub asks : List Stmt
 asks = shows (ask (one ∷ []) ∷ ask [] ∷ ask (two ∷ []) ∷ []) ∷ []
 
+-- `host.out(1);host.out(host.ask());`
+abbrev pub asks_later : List Stmt
+asks_later = shows (one ∷ []) ∷ shows (ask [] ∷ []) ∷ []
+
 -- `function(type,v){host.out(type,v,this===o);}`
 abbrev pub shower : ℕ → Expr
 shower number =
@@ -117,7 +121,7 @@ function_text = binary op.Add (dot (name (codes "Math")) (codes "abs")) (text []
 abbrev pub wrappers : List Expr
 wrappers =
     call (dot (dot (dot (name (codes "Math")) (codes "abs")) (codes "call")) (codes "call"))
-        (one ∷ [])
+    (one ∷ [])
     ∷ call (name (codes "Object")) (one ∷ []) ∷ new (name (codes "String")) (text x ∷ [])
     ∷ call (dot (dot empty (codes "valueOf")) (codes "call")) (one ∷ [])
     ∷ call (dot (function 1 [] []) (codes "call")) (text x ∷ []) ∷ []

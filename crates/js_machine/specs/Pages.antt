@@ -52,17 +52,17 @@ clicks =
     (tree.AnExpr (tree.Binary op.Less (name i) (dot list (codes "length"))))
     (tree.AnExpr (tree.Postfix (name i) postfix.Increment))
     (calls (dot (call (dot (at list (name i)) (codes "up")) (name (codes "v") ∷ []))
-        (codes "show")) []) ∷ [])
+    (codes "show")) []) ∷ [])
 
 abbrev pub counters : List Stmt
 counters =
     declare 1 (codes "Counter") (codes "n" ∷ []) (sets this_n (name (codes "n")) ∷ [])
     ∷ sets (dot (dot counter (codes "prototype")) (codes "up")) (function 2 (k ∷ []) (
-        tree.Do (tree.Assign (Some op.Add) this_n (name k)) ∷ returns tree.This ∷ []))
+    tree.Do (tree.Assign (Some op.Add) this_n (name k)) ∷ returns tree.This ∷ []))
     ∷ sets (dot (dot counter (codes "prototype")) (codes "show")) (function 3 [] (
-        shows (tree.Binary op.Add (text (codes "n=")) this_n ∷ []) ∷ []))
+    shows (tree.Binary op.Add (text (codes "n=")) this_n ∷ []) ∷ []))
     ∷ var (codes "list")
-        (array (new counter (number 1 ∷ []) ∷ new counter (number 10 ∷ []) ∷ []))
+    (array (new counter (number 1 ∷ []) ∷ new counter (number 10 ∷ []) ∷ []))
     ∷ listens (codes "click") clicks ∷ []
 
 abbrev pub click_page : Page

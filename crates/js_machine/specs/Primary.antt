@@ -1,5 +1,5 @@
 -- Primary expressions (ES3 11.1).
-use Rattle.std.specs.Prelude.{ℕ, ◌+◌, Some}
+use Rattle.std.specs.Prelude.{ℕ, suc, Some}
 use Rattle.object_heap.specs.declared.built_in.BuiltIn.TheVariants as built
 use Rattle.object_heap.specs.declared.object.Class.TheVariants as class
 use Rattle.object_heap.specs.Arrays.{whole}
@@ -30,11 +30,11 @@ new_array = new_object class.Array (Some (number_of built.ArrayPrototype))
 -- the elements from an index on; a hole counts in `length` alone
 abbrev pub elements : Elements → ℕ → ℕ → Env → Program → Program
 elements NoElements array index env p = put array length_name (whole index) p
-elements (MoreElements NoExpr rest) array index env p = elements rest array (index + 1) env p
+elements (MoreElements NoExpr rest) array index env p = elements rest array (suc index) env p
 elements (MoreElements (AnExpr e) rest) array index env p = do
   v ← value_of e env
   put array (decimal index) v
-  elements rest array (index + 1) env p
+  elements rest array (suc index) env p
 
 abbrev pub array_literal : Elements → Env → Program
 array_literal es env = do

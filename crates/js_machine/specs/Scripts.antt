@@ -43,21 +43,21 @@ abbrev pub sums : List Stmt
 sums =
     var (codes "s") (number 0)
     ∷ tree.For (vars i (number 1)) (AnExpr (tree.Binary op.LessEqual (name i) (number 3)))
-        (AnExpr (tree.Postfix (name i) postfix.Increment)) (blocks (
-        tree.If (tree.Binary op.Equal (name i) (number 2)) (tree.Continue None) NoStmt
-        ∷ tree.Do (tree.Assign (Some op.Add) (name (codes "s")) (name i)) ∷ []))
+    (AnExpr (tree.Postfix (name i) postfix.Increment)) (blocks (
+    tree.If (tree.Binary op.Equal (name i) (number 2)) (tree.Continue None) NoStmt
+    ∷ tree.Do (tree.Assign (Some op.Add) (name (codes "s")) (name i)) ∷ []))
     ∷ shows (name (codes "s")
-        ∷ tree.Binary op.Remainder (tree.Prefix prefix.Minus (number 7)) (number 4)
-        ∷ tree.Binary op.ShiftLeft (number 1) (number 31)
-        ∷ tree.Binary op.Add (text a) (number 1) ∷ []) ∷ []
+    ∷ tree.Binary op.Remainder (tree.Prefix prefix.Minus (number 7)) (number 4)
+    ∷ tree.Binary op.ShiftLeft (number 1) (number 31)
+    ∷ tree.Binary op.Add (text a) (number 1) ∷ []) ∷ []
 
 -- `a:for(var i=0;i<3;i++){for(;;){if(i==1)break a;continue a;}}host.out(i);`
 abbrev pub jumps : List Stmt
 jumps =
     tree.Label a (counts i 3 (blocks (
-        tree.For Nothing NoExpr NoExpr (blocks (
-        tree.If (tree.Binary op.Equal (name i) (number 1)) (tree.Break (Some a)) NoStmt
-        ∷ tree.Continue (Some a) ∷ [])) ∷ [])))
+    tree.For Nothing NoExpr NoExpr (blocks (
+    tree.If (tree.Binary op.Equal (name i) (number 1)) (tree.Break (Some a)) NoStmt
+    ∷ tree.Continue (Some a) ∷ [])) ∷ [])))
     ∷ shows (name i ∷ []) ∷ []
 
 -- `switch(2){case 1:host.out(1);default:host.out(0);case 3:host.out(3);}`
@@ -72,7 +72,7 @@ chooses =
 abbrev pub divides : List Stmt
 divides =
     tree.Try (blocks (shows (tree.Binary op.Divide (number 6) (number 2) ∷ [])
-        ∷ tree.Do (tree.Binary op.Divide (number 7) (number 2)) ∷ []))
+    ∷ tree.Do (tree.Binary op.Divide (number 7) (number 2)) ∷ []))
     (ACatch e (blocks (shows (text (codes "no") ∷ []) ∷ []))) NoStmt ∷ []
 
 -- `host.out(9007199254740991);host.out(9007199254740991+1);`
@@ -106,7 +106,7 @@ shortens =
     ∷ sets (dot (name a) (codes "length")) (number 1)
     ∷ sets (at (name a) (number 3)) (number 9)
     ∷ shows (dot (name a) (codes "length") ∷ at (name a) (number 1)
-        ∷ tree.Binary op.In (number 3) (name a) ∷ []) ∷ []
+    ∷ tree.Binary op.In (number 3) (name a) ∷ []) ∷ []
 
 -- `var o={};o["$dl_"+"x"]=1;`
 abbrev pub takes_a_reserved_name : List Stmt
@@ -118,9 +118,9 @@ takes_a_reserved_name =
 abbrev pub converts : List Stmt
 converts =
     shows (call (dot (array (number 1 ∷ array (number 2 ∷ number 3 ∷ []) ∷ [])) (codes "join"))
-        (text (codes "-") ∷ [])
+    (text (codes "-") ∷ [])
     ∷ dot (call (dot (text (codes "a,b")) (codes "split")) (text (codes ",") ∷ []))
-        (codes "length")
+    (codes "length")
     ∷ call (name (codes "parseInt")) (text (codes "12px") ∷ [])
     ∷ call (dot (number 255) (codes "toString")) (number 16 ∷ [])
     ∷ tree.Binary op.Divide (number 0) (number 0) ∷ []) ∷ []
@@ -132,8 +132,8 @@ enters_with_a_text =
     sets (dot (dot (name (codes "String")) (codes "prototype")) (codes "twice"))
     (function 1 [] (returns (tree.Binary op.Add tree.This tree.This) ∷ []))
     ∷ shows (call (dot (text (codes "ab")) (codes "twice")) []
-        ∷ tree.Prefix prefix.TypeOf (call (name (codes "Object")) (number 1 ∷ []))
-        ∷ tree.Binary op.Add (new (name (codes "Number")) (number 5 ∷ [])) (number 1) ∷ []) ∷ []
+    ∷ tree.Prefix prefix.TypeOf (call (name (codes "Object")) (number 1 ∷ []))
+    ∷ tree.Binary op.Add (new (name (codes "Number")) (number 5 ∷ [])) (number 1) ∷ []) ∷ []
 
 -- ---- functions
 
@@ -159,9 +159,9 @@ replaces_functions =
 abbrev pub knows_its_name : List Stmt
 knows_its_name =
     var g (tree.Function (Code 1 (Some (codes "h")) (codes "n" ∷ []) (block (
-        returns (tree.Cond (name (codes "n"))
-        (call (name (codes "h")) (tree.Binary op.Subtract (name (codes "n")) (number 1) ∷ []))
-        (tree.Binary op.Same (name (codes "h")) (name g))) ∷ [])) Plain))
+    returns (tree.Cond (name (codes "n"))
+    (call (name (codes "h")) (tree.Binary op.Subtract (name (codes "n")) (number 1) ∷ []))
+    (tree.Binary op.Same (name (codes "h")) (name g))) ∷ [])) Plain))
     ∷ shows (call (name g) (number 2 ∷ []) ∷ []) ∷ []
 
 -- `function mk(x){return function(){return x++;};}var a=mk(10),b=mk(20);`
@@ -169,9 +169,9 @@ knows_its_name =
 abbrev pub keeps_scopes : List Stmt
 keeps_scopes =
     declare 1 (codes "mk") (x ∷ []) (
-        returns (function 2 [] (returns (tree.Postfix (name x) postfix.Increment) ∷ [])) ∷ [])
+    returns (function 2 [] (returns (tree.Postfix (name x) postfix.Increment) ∷ [])) ∷ [])
     ∷ tree.Variables (MoreVarItems a (AnExpr (call (name (codes "mk")) (number 10 ∷ [])))
-        (MoreVarItems b (AnExpr (call (name (codes "mk")) (number 20 ∷ []))) NoVarItems))
+    (MoreVarItems b (AnExpr (call (name (codes "mk")) (number 20 ∷ []))) NoVarItems))
     ∷ shows (call (name a) [] ∷ call (name b) [] ∷ call (name a) [] ∷ call (name b) [] ∷ []) ∷ []
 
 -- `function f(x){arguments[0]=5;return x;}host.out(f(1),f());`
@@ -184,7 +184,7 @@ shares_arguments =
 abbrev pub returns_at_last : List Stmt
 returns_at_last =
     declare 1 f [] (tree.Try (blocks (tree.Throw (number 1) ∷ [])) NoHandler
-        (AStmt (blocks (returns (number 2) ∷ []))) ∷ [])
+    (AStmt (blocks (returns (number 2) ∷ []))) ∷ [])
     ∷ shows (call (name f) [] ∷ []) ∷ []
 
 -- `for(var k in this)host.out(k);function f(){}f();`
@@ -201,12 +201,12 @@ uses_a_constructor =
     ∷ shows (dot (name o) (codes "n") ∷ dot (name o) a ∷ [])
     ∷ var (codes "p") (new (name (codes "F")) (number 3 ∷ []))
     ∷ shows (dot (name (codes "p")) (codes "n") ∷ dot (name (codes "p")) a
-        ∷ tree.Binary op.Same (dot (name (codes "p")) (codes "constructor")) (name (codes "F"))
-        ∷ [])
+    ∷ tree.Binary op.Same (dot (name (codes "p")) (codes "constructor")) (name (codes "F"))
+    ∷ [])
     ∷ calls (dot (name (codes "F")) (codes "call"))
-        (name o ∷ number 4 ∷ number 5 ∷ number 6 ∷ [])
+    (name o ∷ number 4 ∷ number 5 ∷ number 6 ∷ [])
     ∷ shows (dot (name o) (codes "n") ∷ dot (name o) a
-        ∷ dot (name (codes "F")) (codes "length") ∷ []) ∷ []
+    ∷ dot (name (codes "F")) (codes "length") ∷ []) ∷ []
 
 -- `this.n=arguments.length;this.a=a;`
 abbrev pub keeps_arguments : List Stmt
@@ -224,7 +224,7 @@ abbrev pub catches : Expr → List Stmt
 catches function =
     var (codes "fs") (array [])
     ∷ counts i 3 (blocks (tree.Try (blocks (tree.Throw (name i) ∷ []))
-        (ACatch e (blocks (calls (dot (name (codes "fs")) (codes "push")) (function ∷ []) ∷ [])))
-        NoStmt ∷ []))
+    (ACatch e (blocks (calls (dot (name (codes "fs")) (codes "push")) (function ∷ []) ∷ [])))
+    NoStmt ∷ []))
     ∷ counts (codes "j") 2 (counts k 3 (
-        shows (call (at (name (codes "fs")) (name k)) [] ∷ []))) ∷ []
+    shows (call (at (name (codes "fs")) (name k)) [] ∷ []))) ∷ []

@@ -55,14 +55,14 @@ abbrev pub does_on : List Stmt
 does_on =
     var i (number 0)
     ∷ tree.DoWhile (blocks (does next ∷ when 2 (tree.Continue None) ∷ tells (name i) ∷ []))
-        (below 3) ∷ []
+    (below 3) ∷ []
 
 -- `var i=0;while(i<5){i++;if(i==2)continue;if(i==4)break;host.out(i);}host.out("x");`
 abbrev pub goes_on : List Stmt
 goes_on =
     var i (number 0)
     ∷ tree.While (below 5) (blocks (does next ∷ when 2 (tree.Continue None)
-        ∷ when 4 (tree.Break None) ∷ tells (name i) ∷ []))
+    ∷ when 4 (tree.Break None) ∷ tells (name i) ∷ []))
     ∷ says x ∷ []
 
 -- `var i=0;for(;;){if(i==2)break;i++;}host.out(i);`
@@ -89,7 +89,7 @@ abbrev pub changes_while_visited : List Stmt
 changes_while_visited =
     var o (object ((a, one) ∷ (b, one) ∷ []))
     ∷ visits k (name o) (blocks (does (unary prefix.Delete (dot (name o) b))
-        ∷ sets (dot (name o) x) one ∷ tells (name k) ∷ [])) ∷ []
+    ∷ sets (dot (name o) x) one ∷ tells (name k) ∷ [])) ∷ []
 
 -- `Object.prototype.b=1;Object.prototype.x=1;for(k in {a:1,x:2})host.out(k);`
 abbrev pub visits_prototypes : List Stmt
@@ -119,7 +119,7 @@ abbrev pub visits_into_a_property : List Stmt
 visits_into_a_property =
     var o empty
     ∷ tree.ForIn (Target (at (name o) (tree.Comma (out (text k ∷ [])) (text x))))
-        (object ((a, one) ∷ (b, one) ∷ [])) (tells (dot (name o) x)) ∷ []
+    (object ((a, one) ∷ (b, one) ∷ [])) (tells (dot (name o) x)) ∷ []
 
 -- `for(var k in {a:1,b:1}){if(k=="a")continue;host.out(k);break;}`
 abbrev pub jumps_in_a_visit : List Stmt
@@ -140,7 +140,7 @@ visits_an_error =
 abbrev pub returns_from_a_loop : List Stmt
 returns_from_a_loop =
     declare 1 f (i ∷ []) (tree.While (tree.Truth true) (blocks (
-        tree.If (name i) (tree.Return NoExpr) NoStmt ∷ returns one ∷ [])) ∷ [])
+    tree.If (name i) (tree.Return NoExpr) NoStmt ∷ returns one ∷ [])) ∷ [])
     ∷ shows (call (name f) (number 0 ∷ []) ∷ call (name f) (one ∷ []) ∷ []) ∷ []
 
 -- `switch(e){case 1:host.out(1);default:host.out(0);break;case "1":host.out(2);}`
@@ -169,14 +169,14 @@ abbrev pub leaves_labels : List Stmt
 leaves_labels =
     tree.Label a (blocks (says a ∷ tree.Break (Some a) ∷ says b ∷ []))
     ∷ tree.Label x (tree.Switch one (MoreCases (AnExpr one) (block (
-        tree.For Nothing NoExpr NoExpr (blocks (tree.Break (Some x) ∷ [])) ∷ [])) NoCases))
+    tree.For Nothing NoExpr NoExpr (blocks (tree.Break (Some x) ∷ [])) ∷ [])) NoCases))
     ∷ says x ∷ []
 
 -- `for(var i=0;i<2;i++){a:{if(i==0)break;host.out("b");}host.out(i);}`
 abbrev pub leaves_the_loop : List Stmt
 leaves_the_loop =
     counts i 2 (blocks (tree.Label a (blocks (when 0 (tree.Break None) ∷ says b ∷ []))
-        ∷ tells (name i) ∷ [])) ∷ []
+    ∷ tells (name i) ∷ [])) ∷ []
 
 -- `a:b:for(var i=0;i<2;i++){for(;;){host.out(i);continue a;}}`, or with b
 abbrev pub goes_on_outside : Name → List Stmt

@@ -18,7 +18,8 @@ use Rattle.js_machine.specs.Asks.{Program, Begin, Tail, Under, Open, Write, Comp
 use Rattle.js_machine.specs.Asks.{Outcome}
 use Rattle.js_machine.specs.Frames.{◌>>=◌, ◌>>◌, done, completes, value_of}
 use Rattle.js_machine.specs.Frames.{after_statement, at_frame}
-use Rattle.js_machine.specs.Loops.{variables, do_while, while, for, for_in}
+use Rattle.js_machine.specs.Loops.{do_while, while, for, for_in}
+use Rattle.js_machine.specs.Variables.{variables}
 
 -- ---- lists of statements (12.1)
 

@@ -63,7 +63,7 @@ first_stub k x formals = tree.Function (stub k x formals (first_form k))
 abbrev pub second_stub : ℕ → Option Name → List Name → Expr
 second_stub k x formals =
     call (tree.Function (Code 0 None [] (block (cells (k ∷ [])
-        ∷ returns (tree.Function (stub k x formals (second_form k))) ∷ [])) role.Wrapper)) []
+    ∷ returns (tree.Function (stub k x formals (second_form k))) ∷ [])) role.Wrapper)) []
 
 -- ---- entries
 
@@ -89,7 +89,7 @@ tells_two = entry 2 [] (shows (text (codes "two") ∷ []) ∷ []) ∷ []
 abbrev pub tells_three_with : List Stmt → List Stmt → List Stmt
 tells_three_with first body =
     first ++ tree.Declare (Code 1 (Some f) [] (block (shows (text (codes "one") ∷ []) ∷ []))
-        role.Plain)
+    role.Plain)
     ∷ declared_stub 2 g [] body
     ∷ calls (name f) [] ∷ calls (name g) [] ∷ shows (text (codes "three") ∷ []) ∷ []
 
@@ -132,8 +132,8 @@ replaces_second =
 abbrev pub knows_its_name_entries : Entries
 knows_its_name_entries =
     entry 1 (codes "n" ∷ []) (returns (tree.Cond (name (codes "n"))
-        (call (name (codes "h")) (tree.Binary op.Subtract (name (codes "n")) (number 1) ∷ []))
-        (tree.Binary op.Same (name (codes "h")) (name g))) ∷ []) ∷ []
+    (call (name (codes "h")) (tree.Binary op.Subtract (name (codes "n")) (number 1) ∷ []))
+    (tree.Binary op.Same (name (codes "h")) (name g))) ∷ []) ∷ []
 
 abbrev pub knows_its_name_with : Expr → List Stmt
 knows_its_name_with function =
@@ -151,7 +151,7 @@ abbrev pub keeps_scopes_with : Stmt → List Stmt → List Stmt
 keeps_scopes_with first body =
     first ∷ declared_stub 1 (codes "mk") (x ∷ []) body
     ∷ tree.Variables (MoreVarItems a (AnExpr (call (name (codes "mk")) (number 10 ∷ [])))
-        (MoreVarItems b (AnExpr (call (name (codes "mk")) (number 20 ∷ []))) NoVarItems))
+    (MoreVarItems b (AnExpr (call (name (codes "mk")) (number 20 ∷ []))) NoVarItems))
     ∷ shows (call (name a) [] ∷ call (name b) [] ∷ call (name a) [] ∷ call (name b) [] ∷ []) ∷ []
 
 abbrev pub shares_entries : Entries
@@ -166,7 +166,7 @@ shares_with first body =
 abbrev pub returns_entries : Entries
 returns_entries =
     entry 1 [] (tree.Try (blocks (tree.Throw (number 1) ∷ [])) NoHandler
-        (AStmt (blocks (returns (number 2) ∷ []))) ∷ []) ∷ []
+    (AStmt (blocks (returns (number 2) ∷ []))) ∷ []) ∷ []
 
 abbrev pub returns_with : Stmt → List Stmt → List Stmt
 returns_with first body =

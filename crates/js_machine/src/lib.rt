@@ -3,6 +3,7 @@
 
 mod expression_rows;
 mod function_rows;
+mod laws;
 mod operator_rows;
 mod page_rows;
 mod rows;
@@ -13,6 +14,10 @@ pub use expression_rows::{
     accesses_and_calls, choices_and_assignments, primary_expressions, unary_operators,
 };
 pub use function_rows::{applications, arguments_of_calls, bindings, function_objects};
+pub use laws::{
+    lists_are_applied, long_texts_stop, nodes_have_parts, pages_grow, pages_rise, runs_grow,
+    steps_rise,
+};
 pub use operator_rows::{conversions, equalities, numbers_and_texts, orders};
 pub use page_rows::{events, scripts, stopped_runs};
 pub use rows::{worked_functions, worked_logs, worked_objects, worked_pages, worked_scripts};

@@ -21,6 +21,8 @@ pub fn events()
         ∷ Call (codes "ask") [] ∷ Call (codes "ask") (number 2 ∷ [])
         ∷ out (number 7 ∷ text tree.x ∷ shown.Undefined ∷ []) ∷ Idle 0 ∷ Event 1 ∷ Event 2
         ∷ Event 3 ∷ [] }
+    ensures replies_by_names { marks_of (of_page small.page small.asks_later) ≡ numbers 1
+        ∷ Call (codes "ask") [] ∷ numbers 7 ∷ Idle 0 ∷ Event 1 ∷ Event 2 ∷ Event 3 ∷ [] }
     ensures listeners { marks_of (of_page small.page small.listening) ≡ Idle 0 ∷ Event 1
         ∷ Entry 1 1 ∷ out (text tree.a ∷ number 1 ∷ truth true ∷ []) ∷ Event 2 ∷ Entry 2 2
         ∷ Uncaught (shown.Object 1) ∷ Entry 3 3
@@ -34,8 +36,12 @@ pub fn events()
         ≡ texts tree.k ∷ texts (codes "TypeError") ∷ [] }
     ensures hidden { lines small.visits_host ≡ texts tree.x ∷ [] }
     ensures steps_run_out { report (original (tree.block pages.goes ∷ []) pages.go_page 12)
-        ≡ record { marks = Idle 0 ∷ Event 1 ∷ Entry 2 1 ∷ []; ending = OutOfSteps; steps = 12;
-        beats = 1 } }
+        ≡ record {
+          marks = Idle 0 ∷ Event 1 ∷ Entry 2 1 ∷ [];
+          ending = OutOfSteps;
+          steps = 12;
+          beats = 1;
+        } }
     ensures steps_suffice { report (original (tree.block pages.goes ∷ []) pages.go_page 19)
         ≡ ended (Idle 0 ∷ Event 1 ∷ Entry 2 1 ∷ Entry 1 2 ∷ texts tree.f ∷ []) 19 2 }
 {}
@@ -65,13 +71,20 @@ pub fn stopped_runs()
     ensures wrapper { map (λ e. ending_of (run_of (stops e))) small.wrappers
         ≡ replicate 5 (Stopped reason.Wrapper) }
     ensures before_the_beat { report (run_of small.enters_with_text) ≡ record {
-        marks = Entry 1 1 ∷ []; ending = Stopped reason.Wrapper; steps = 12; beats = 1 } }
+      marks = Entry 1 1 ∷ [];
+      ending = Stopped reason.Wrapper;
+      steps = 12;
+      beats = 1;
+    } }
     ensures reserved_name { map (λ e. ending_of (run_of (stops e))) small.reserved_names
         ≡ replicate 4 (Stopped reason.ReservedName) }
     ensures not_reserved { ending_of (run_of (stops small.not_reserved)) ≡ Ended }
     ensures of_null { caught (tree.does small.reserved_of_null ∷ [])
         ≡ texts (codes "TypeError") ∷ [] }
     ensures in_an_event { report (of_page small.page small.stops_in_an_event) ≡ record {
-        marks = Idle 0 ∷ Event 1 ∷ Entry 1 1 ∷ []; ending = Stopped reason.Fraction; steps = 20;
-        beats = 1 } }
+      marks = Idle 0 ∷ Event 1 ∷ Entry 1 1 ∷ [];
+      ending = Stopped reason.Fraction;
+      steps = 20;
+      beats = 1;
+    } }
 {}

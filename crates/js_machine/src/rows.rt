@@ -24,14 +24,24 @@ pub fn worked_scripts()
         ≡ out (number 4 ∷ minus 3 ∷ minus 2147483648 ∷ text (codes "a1") ∷ []) ∷ [] }
     ensures jumps { lines script.jumps ≡ numbers 1 ∷ [] }
     ensures chooses { lines script.chooses ≡ numbers 0 ∷ numbers 3 ∷ [] }
-    ensures divides { report (run_of script.divides) ≡ record { marks = numbers 3 ∷ [];
-        ending = Stopped reason.Fraction; steps = 15; beats = 0 } }
+    ensures divides { report (run_of script.divides) ≡ record {
+      marks = numbers 3 ∷ [];
+      ending = Stopped reason.Fraction;
+      steps = 15;
+      beats = 0;
+    } }
     ensures passes_the_top { report (run_of script.passes_the_top) ≡ record {
-        marks = numbers 9007199254740991 ∷ []; ending = Stopped reason.TooLarge; steps = 14;
-        beats = 0 } }
+      marks = numbers 9007199254740991 ∷ [];
+      ending = Stopped reason.TooLarge;
+      steps = 14;
+      beats = 0;
+    } }
     ensures never_ends { report (under 20 script.never_ends) ≡ record {
-        marks = texts (codes "t") ∷ texts (codes "t") ∷ []; ending = OutOfSteps; steps = 20;
-        beats = 3 } }
+      marks = texts (codes "t") ∷ texts (codes "t") ∷ [];
+      ending = OutOfSteps;
+      steps = 20;
+      beats = 3;
+    } }
     ensures throws { report (run_of script.throws)
         ≡ ended (Uncaught (shown.Object 1) ∷ Idle 0 ∷ []) 3 0 }
 {}
@@ -44,11 +54,19 @@ pub fn worked_objects()
     ensures shortens { lines script.shortens
         ≡ out (number 4 ∷ shown.Undefined ∷ shown.Bool true ∷ []) ∷ [] }
     ensures takes_a_reserved_name { report (run_of script.takes_a_reserved_name) ≡ record {
-        marks = []; ending = Stopped reason.ReservedName; steps = 10; beats = 0 } }
+      marks = [];
+      ending = Stopped reason.ReservedName;
+      steps = 10;
+      beats = 0;
+    } }
     ensures converts { lines script.converts ≡ out (text (codes "1-2,3") ∷ number 2 ∷ number 12
         ∷ text (codes "ff") ∷ shown.Num NaN ∷ []) ∷ [] }
-    ensures enters_with_a_text { report (run_of script.enters_with_a_text) ≡ record { marks = [];
-        ending = Stopped reason.Wrapper; steps = 15; beats = 0 } }
+    ensures enters_with_a_text { report (run_of script.enters_with_a_text) ≡ record {
+      marks = [];
+      ending = Stopped reason.Wrapper;
+      steps = 15;
+      beats = 0;
+    } }
 {}
 
 /// Functions.

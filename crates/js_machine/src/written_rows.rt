@@ -27,8 +27,11 @@ pub fn written_runs()
         page.go_page ample) ≡ ended (Idle 0 ∷ Event 1 ∷ Entry 2 1 ∷ Need 2 ∷ Entry 1 2 ∷ Need 1
         ∷ texts tree.f ∷ []) 37 2 }
     ensures without_entries { report (written_run [] form.tells_three_first) ≡ record {
-        marks = Entry 1 1 ∷ texts (codes "one") ∷ Entry 2 2 ∷ Need 2 ∷ [];
-        ending = NoEntry; steps = 19; beats = 2 } }
+      marks = Entry 1 1 ∷ texts (codes "one") ∷ Entry 2 2 ∷ Need 2 ∷ [];
+      ending = NoEntry;
+      steps = 19;
+      beats = 2;
+    } }
 {}
 
 /// What the host sees of them.
