@@ -57,9 +57,9 @@ pub data Kind : Type 0 where
 pub data Program : Type 0 where
   -- the outcome of what was begun
   Ret : (o : Outcome) → Program
-  -- these five take a step: a node is begun, a node is begun that ends as the running one does, the
-  -- next turn of a loop, a function is entered (where it is none, a TypeError without a step), and a
-  -- step of its own
+  -- these five take a step: a node is begun, a node is begun that ends as the running one does, a
+  -- turn of a loop begins, a function is entered (where it is none, that is a TypeError without a
+  -- step), and a step of its own
   Begin : (node : Node) → (env : Env) → (k : Outcome → Program) → Program
   Tail : (node : Node) → (env : Env) → Program
   Turn : (loop : Loop) → (env : Env) → Program

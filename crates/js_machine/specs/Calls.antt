@@ -33,8 +33,8 @@ index object key env k = do
   name ← to_name v
   k (OnBase base name)
 
--- a node that is begun as a target or a callee: a name, a dot and an index give a reference (11.1.2,
--- 11.2.1), any other expression its value
+-- a node that is begun as a target or a callee: a name (11.1.2), a dot and an index give a
+-- reference, any other expression its value
 abbrev pub reference : Expr → Env → Asks Reference
 reference (tree.Ident name) env k = Tick (resolve env.chain name k)
 reference (tree.Dot object name) env k = Tick (dot object name env k)

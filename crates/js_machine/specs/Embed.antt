@@ -56,7 +56,7 @@ embed (native.Behind o target k) = Behind o target (λ b. embed (k b))
 embed (native.Write o name v p) = put o name v (embed p)
 embed (native.Delete o name p) = Delete o name (λ b. embed p)
 
--- ---- under `new`: the native that constructs, entered with a step; a TypeError where there is none
+-- ---- under `new`: a native that constructs is entered with a step; another one is a TypeError
 
 abbrev pub constructed_by : Option Native → List Value → Program
 constructed_by None args = throws_type_error

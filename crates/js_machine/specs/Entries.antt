@@ -41,8 +41,8 @@ counted role.Stub number p = TellEntry number p
 counted role.Wrapper number p = p
 counted role.Late number p = p
 
--- a primitive `this` that is neither undefined nor null stops the run before the beat (10.2.3); then
--- all is bound in a new scope (10.1.3), and the body runs
+-- a primitive `this` that is neither undefined nor null stops the run before the beat (10.2.3);
+-- then all is bound in a new scope (10.1.3), and the body runs
 abbrev pub enter_code : Func → List ℕ → Value → List Value → Program
 enter_code (Code number name formals body role) chain this args = do
   this ← or_stop (this_at_entry this)
@@ -76,7 +76,8 @@ enter_native n this args = embed (program_of n this args)
 -- ---- all of them; None where it cannot be called
 
 abbrev pub entry : Callee → Value → List Value → Option Program
-entry (state.Script code chain) this args = Some (Under (enter_code code chain this args) after_body)
+entry (state.Script code chain) this args =
+    Some (Under (enter_code code chain this args) after_body)
 entry (state.Native b) this args = option_map (λ n. enter_native n this args) (calls_of b).called
 -- a host call is told, and answered
 entry (state.HostCall name) this args = Some (TellCall name args gives)

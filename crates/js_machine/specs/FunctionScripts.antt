@@ -58,8 +58,8 @@ writes_constants =
 -- ---- 10.1.8
 
 -- `function f(x){x=2;host.out(arguments[0],arguments.length,arguments[1]);arguments[1]=4;`
--- `delete arguments[0];arguments[0]=5;host.out(x,arguments[0]);for(var k in arguments)host.out(k);}`
--- `f(1,3);`
+-- `delete arguments[0];arguments[0]=5;host.out(x,arguments[0]);`
+-- `for(var k in arguments)host.out(k);}f(1,3);`
 abbrev pub shares : List Stmt
 shares =
     declare 1 f (x ∷ []) (sets (name x) two

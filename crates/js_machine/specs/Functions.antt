@@ -28,7 +28,7 @@ function_expression code env = do
   f ← named_function (name_of code) code env.chain
   gives (object_value f)
 
--- ---- `eval($dl_get(k))` (Doloto's own): the entry's function, without a name, in the running scope
+-- ---- `eval($dl_get(k))` (Doloto's own): the entry's function, in the running scope
 
 abbrev pub as_late : Func → Func
 as_late (Code number name formals body stands) = Code number None formals body role.Late

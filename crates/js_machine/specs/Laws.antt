@@ -19,8 +19,8 @@ use Rattle.js_machine.specs.Logs.{timed_marks, marks_of, ending_of, OutOfSteps}
 
 -- ---- steps never fall and never pass the budget
 
--- the marks and the end have steps from the first on to the most; they never fall, and the run is out
--- of steps at the most alone
+-- the marks and the end have steps from the first on to the most; they never fall, and the run is
+-- out of steps at the most alone
 pub data Rises : ℕ → ℕ → Trace → Type 0 where
   says : {first most steps : ℕ} {mark : Mark} {rest : Trace}
       → first ≤ steps → Rises steps most rest → Rises first most (Say mark steps rest)
@@ -40,8 +40,8 @@ StepsRise =
 
 -- ---- a run under fewer steps is a cut of the run under more
 
--- where the one is out of steps at the most, what the other has from there on comes later; else they
--- are alike
+-- where the one is out of steps at the most, what the other has from there on comes later; else
+-- they are alike
 pub data IsCut : ℕ → Trace → Trace → Type 0 where
   same_mark : {most steps : ℕ} {mark : Mark} {rest more : Trace}
       → steps ≤ most → IsCut most rest more → IsCut most (Say mark steps rest) (Say mark steps more)

@@ -72,8 +72,8 @@ with_objects =
     ∷ binary op.Equal (tree.Truth true)
     (object ((value_of, function 1 [] (returns one ∷ [])) ∷ [])) ∷ []
 
--- `[] instanceof Object,1 instanceof Object,host.out instanceof Object,"a" in {a:1},"toString" in {},`
--- `"b" in {a:1}`
+-- `[] instanceof Object,1 instanceof Object,host.out instanceof Object,"a" in {a:1},`
+-- `"toString" in {},"b" in {a:1}`
 abbrev pub tests : List Expr
 tests =
     binary op.InstanceOf (array []) (name (codes "Object"))

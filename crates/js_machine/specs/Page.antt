@@ -94,7 +94,8 @@ scripts (script ∷ more) rest = Begin (AScript script) script_env (after_task (
 -- the listeners of an event, with its type and its value
 abbrev pub calls : List ℕ → List Value → Program → Program
 calls [] args rest = rest
-calls (f ∷ fs) args rest = Enter (object_value f) global_value args (after_task (calls fs args rest))
+calls (f ∷ fs) args rest =
+    Enter (object_value f) global_value args (after_task (calls fs args rest))
 
 -- those that were registered when the event began, in order of registration
 abbrev pub event : ℕ → Name → Value → Program → Program

@@ -21,13 +21,15 @@ use Rattle.js_tree.specs.Tree.{Func}
 use Rattle.js_machine.specs.Asks.{Program, Ret, Begin, Tail, Turn, Enter, Tick, Under, Stop, Broken}
 use Rattle.js_machine.specs.Asks.{TellCall, TellUncaught, TellIdle, TellEvent, TellEntry, TellUse}
 use Rattle.js_machine.specs.Asks.{TellNeed, CountTurn, Listen, Listeners, Find, Write, Open, Fix}
-use Rattle.js_machine.specs.Asks.{Activate, Make, MakeFunction, MakeNew, Get, Put, Delete, Has, Define, Own, Visible}
+use Rattle.js_machine.specs.Asks.{Activate, Make, MakeFunction, MakeNew, Get, Put, Delete, Has}
+use Rattle.js_machine.specs.Asks.{Define, Own, Visible}
 use Rattle.js_machine.specs.Asks.{KindOf, Compare, Behind, Outcome, Ends}
 use Rattle.js_machine.specs.State
 use Rattle.js_machine.specs.State.{object_value, callee_of, kind_of, property_value, listening}
 use Rattle.js_machine.specs.State.{is_length, with_step, with_beat, with_passed, with_call}
 use Rattle.js_machine.specs.State.{with_listener, with_heap, with_scopes, with_object}
-use Rattle.js_machine.specs.State.{with_function, with_new, with_entry, with_put, with_scope, with_write}
+use Rattle.js_machine.specs.State.{with_function, with_new, with_entry, with_put, with_scope}
+use Rattle.js_machine.specs.State.{with_write}
 use Rattle.js_machine.specs.References.{error_object}
 use Rattle.js_machine.specs.Loops.{first_of_turn, waits_in_turn}
 use Rattle.js_machine.specs.Entries.{entry}
@@ -114,7 +116,8 @@ go world next (Enter f this args k) ret ks s =
     (go world next (k (Ends (Throw (object_value (length s.heap))))) ret ks
     (with_object (error_object built.TypeErrorPrototype) s))
 go world next (Tick p) ret ks s = next p ks s
-go world next (Under p k) ret ks s = go world next p (λ o t. go world next (k o) ret ks t) (k ∷ ks) s
+go world next (Under p k) ret ks s =
+    go world next p (λ o t. go world next (k o) ret ks t) (k ∷ ks) s
 go world next (Stop reason) ret ks s = Stopped reason s
 go world next Broken ret ks s = NoEntry s
 go world next (TellCall name args k) ret ks s =

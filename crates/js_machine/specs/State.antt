@@ -120,7 +120,8 @@ is_length heap_put.BadLength = false
 
 abbrev pub listening : List (Name × ℕ) → Name → List ℕ
 listening [] type = []
-listening (l ∷ ls) type = if is_same_name l.0 type then l.1 ∷ listening ls type else listening ls type
+listening (l ∷ ls) type =
+    if is_same_name l.0 type then l.1 ∷ listening ls type else listening ls type
 
 -- ---- changes
 

@@ -27,7 +27,8 @@ blocks_and_variables =
     ∷ tree.Variables (MoreVarItems x (AnExpr one) (MoreVarItems o NoExpr NoVarItems))
     ∷ tree.Variables (MoreVarItems x NoExpr NoVarItems) ∷ shows (name x ∷ name o ∷ []) ∷ []
 
--- `if("")host.out("a");if("")host.out("a");else host.out("b");if("x")host.out("x");else host.out("a");`
+-- `if("")host.out("a");if("")host.out("a");else host.out("b");`
+-- `if("x")host.out("x");else host.out("a");`
 abbrev pub conditions : List Stmt
 conditions =
     tree.If (text []) (says a) NoStmt ∷ tree.If (text []) (says a) (AStmt (says b))
@@ -198,7 +199,8 @@ catching ss handler = tree.Try (blocks ss) (ACatch e (blocks handler)) NoStmt
 abbrev pub catches_in_a_scope : List Stmt
 catches_in_a_scope =
     var e one
-    ∷ catching (tree.Throw two ∷ []) (tells (name e) ∷ sets (name e) (number 3) ∷ var x (name e) ∷ [])
+    ∷ catching (tree.Throw two ∷ [])
+    (tells (name e) ∷ sets (name e) (number 3) ∷ var x (name e) ∷ [])
     ∷ shows (name e ∷ name x ∷ []) ∷ []
 
 -- `try{try{throw 1;}finally{host.out("a");}}catch(e){host.out(e);}finally{host.out("b");}`

@@ -1,5 +1,5 @@
-//! Worked functions (ES3 10, 13, 15.3): these calls do nothing, and each says what the host sees, or
-//! how a run ends.
+//! Worked functions (ES3 10, 13, 15.3): these calls do nothing, and each says what the host sees,
+//! or how a run ends.
 
 ghost use Rattle.std.specs.Prelude.{◌≡◌, ◌∷◌, [], codes, true, false};
 ghost use Rattle.js_values.specs.declared.reason.Reason.TheVariants as reason;

@@ -24,8 +24,8 @@ pub fn pages_grow()
     ensures { law.PagesGrow }
 {}
 
-/// Under a stack a node runs as it does alone, and what waits goes on from its end: the meaning of a
-/// node is that of its parts.
+/// Under a stack a node runs as it does alone, and what waits goes on from its end: the meaning of
+/// a node is that of its parts.
 pub fn nodes_have_parts()
     ensures { law.NodesHaveParts }
 {}

@@ -51,9 +51,10 @@ pub fn scripts()
     ensures throws { marks_of (original (tree.block small.throws_one ∷ tree.block (tree.shows
         (tree.text tree.k ∷ []) ∷ []) ∷ []) page ample)
         ≡ Uncaught (number 1) ∷ texts tree.k ∷ Idle 0 ∷ [] }
-    ensures ranks { marks_of (original (tree.block small.passes_objects ∷ tree.block (Throw empty ∷ []) ∷ []) page ample) ≡ out (shown.Object 1 ∷ shown.Object 2
-        ∷ shown.Object 1 ∷ []) ∷ Uncaught (shown.Object 1) ∷ Uncaught (shown.Object 3) ∷ Idle 0
-        ∷ [] }
+    ensures ranks { marks_of (original (tree.block small.passes_objects
+        ∷ tree.block (Throw empty ∷ []) ∷ []) page ample)
+        ≡ out (shown.Object 1 ∷ shown.Object 2 ∷ shown.Object 1 ∷ [])
+        ∷ Uncaught (shown.Object 1) ∷ Uncaught (shown.Object 3) ∷ Idle 0 ∷ [] }
 {}
 
 /// Stops, which no `finally` sees.
