@@ -1,6 +1,6 @@
--- What code declares (ES3 10.1.3): its functions, and the names of its `var` statements, in the order
--- of the text. What stands in a function is declared there alone.
-use Rattle.std.specs.Prelude.{ℕ, List, [], ◌∷◌, ◌++◌, Option, Some, None}
+-- What code declares (ES3 10.1.3): its functions, and the names of its `var` statements, in the
+-- order of the text. What stands in a function is declared there alone.
+use Rattle.std.specs.Prelude.{List, [], ◌∷◌, ◌++◌, Some, None}
 use Rattle.object_heap.specs.Names.{Name}
 use Rattle.js_tree.specs.Tree.{Func, Code}
 use Rattle.js_tree.specs.Tree as tree

@@ -1,6 +1,6 @@
 -- What the entry of a function binds, in order (ES3 10.1.3, 10.1.6, 10.1.8, 10.2.3).
-use Rattle.std.specs.Prelude.{ℕ, suc, nat_lt, if◌then◌else◌, List, [], ◌∷◌, ◌++◌, length, take, codes}
-use Rattle.std.specs.Prelude.{Option, Some, None, unwrap_or, Result, Ok, Err}
+use Rattle.std.specs.Prelude.{ℕ, suc, nat_lt, if◌then◌else◌, List, [], ◌∷◌, ◌++◌, length, take}
+use Rattle.std.specs.Prelude.{codes, Option, Some, None, unwrap_or, Result, Ok, Err}
 use Rattle.std.specs.List.{list_any}
 use Rattle.js_values.specs.declared.reason.Reason.{Reason}
 use Rattle.js_values.specs.declared.reason.Reason.TheVariants.{Wrapper}
@@ -17,7 +17,7 @@ use Rattle.scope_arena.specs.Scopes.{Scopes, entered, written_at}
 use Rattle.scope_arena.specs.Search.{with_name}
 use Rattle.js_tree.specs.Tree.{Func, Code, Stmts}
 use Rattle.js_calls.specs.Declared.{functions_of, names_of, vars_in_all}
-use Rattle.js_calls.specs.FunctionObjects.{the_object, formals_of, with_function}
+use Rattle.js_calls.specs.FunctionObjects.{the_object, with_function}
 
 -- ---- `this` (10.2.3): an undefined or null one is the global object; a primitive one would be put
 -- into an object
@@ -72,8 +72,8 @@ arguments_object scope formals args = record {
 
 -- ---- the values of the names
 
--- what an entry leaves: the scope is that of the function's body, and the functions are those that it
--- declares, in the order of the text
+-- what an entry leaves: the scope is that of the function's body, and the functions are those that
+-- it declares, in the order of the text
 pub record Entered : Type 0 where
   pub heap : Heap
   pub scopes : Scopes

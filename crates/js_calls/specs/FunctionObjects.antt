@@ -1,5 +1,5 @@
 -- Function objects (ES3 13.2), and the name of a function expression (13).
-use Rattle.std.specs.Prelude.{ℕ, suc, List, [], ◌∷◌, ◌++◌, length, Option, Some, None}
+use Rattle.std.specs.Prelude.{ℕ, suc, List, [], ◌∷◌, ◌++◌, length, Option, Some}
 use Rattle.js_values.specs.declared.value.Value.{Value}
 use Rattle.js_values.specs.declared.value.Value.TheVariants as value
 use Rattle.object_heap.specs.declared.built_in.BuiltIn.TheVariants as built
@@ -43,8 +43,8 @@ abbrev pub with_function : ℕ → Heap → Heap
 with_function formals heap =
     heap ++ function_object formals (suc (length heap)) ∷ prototype_object (length heap) ∷ []
 
--- ---- 13: the name of a function expression stands in a scope of its own, around the function's, and
--- is read-only there
+-- ---- 13: the name of a function expression stands in a scope of its own, around the function's,
+-- and is read-only there
 
 abbrev pub with_name_scope : Name → Option ℕ → ℕ → Scopes → Scopes
 with_name_scope name outer f scopes =

@@ -1,21 +1,18 @@
 -- Functions, heaps and scopes of the rows.
-use Rattle.std.specs.Prelude.{ℕ, List, [], ◌∷◌, ◌++◌, map, replicate, codes, Option, Some, None}
-use Rattle.std.specs.Prelude.{option_map, slice_get}
+use Rattle.std.specs.Prelude.{ℕ, List, [], ◌∷◌, ◌++◌, map, replicate, codes, Some, None}
 use Rattle.js_values.specs.declared.value.Value.{Value}
-use Rattle.js_values.specs.declared.value.Value.TheVariants as value
 use Rattle.object_heap.specs.declared.object.Class.{Class}
 use Rattle.object_heap.specs.declared.object.Class.TheVariants as class
 use Rattle.object_heap.specs.Arrays.{whole, no_attributes}
 use Rattle.object_heap.specs.Changes.{holding, hidden_only, sharing}
-use Rattle.object_heap.specs.Names.{Name, length_name, prototype_name}
-use Rattle.object_heap.specs.Objects.{Property, Object, Heap, properties_of}
-use Rattle.scope_arena.specs.Scopes.{Scopes, Binding, entered, bindings_of, value_at}
+use Rattle.object_heap.specs.Names.{Name, prototype_name}
+use Rattle.object_heap.specs.Objects.{Property, Heap}
+use Rattle.scope_arena.specs.Scopes.{Scopes, entered, bindings_of}
 use Rattle.js_tree.specs.Tree.{Func, Code, Stmt, Stmts, NoStmts, MoreStmts}
 use Rattle.js_tree.specs.Tree as tree
 use Rattle.js_tree.specs.declared.tree.Role.TheVariants.{Plain}
-use Rattle.js_calls.specs.FunctionObjects.{the_object, with_name_scope}
+use Rattle.js_calls.specs.FunctionObjects.{the_object}
 use Rattle.js_calls.specs.Entry.{Entered, entry_of}
-use Rattle.js_calls.specs.Construct.{constructed}
 
 -- ---- code
 
@@ -50,10 +47,10 @@ variables =
     ∷ tree.For (tree.Vars (items (codes "g"))) tree.NoExpr tree.NoExpr (var (codes "h"))
     ∷ tree.ForIn (tree.AVar (codes "i") tree.NoExpr) tree.Null (var (codes "j"))
     ∷ tree.Switch tree.Null (tree.MoreCases tree.NoExpr (body_of (var (codes "k") ∷ []))
-      (tree.MoreCases (tree.AnExpr tree.Null) (body_of (var (codes "l") ∷ [])) tree.NoCases))
+    (tree.MoreCases (tree.AnExpr tree.Null) (body_of (var (codes "l") ∷ [])) tree.NoCases))
     ∷ tree.Label (codes "x") (var (codes "m"))
     ∷ tree.Try (block (codes "n")) (tree.ACatch (codes "y") (block (codes "o")))
-      (tree.AStmt (block (codes "p")))
+    (tree.AStmt (block (codes "p")))
     ∷ tree.Do (tree.Function (function (codes "v" ∷ []) (var (codes "w") ∷ [])))
     ∷ tree.Variables (tree.MoreVarItems (codes "q") (tree.AnExpr tree.Null) (items (codes "r")))
     ∷ []

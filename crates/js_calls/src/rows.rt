@@ -23,7 +23,8 @@ ghost use Rattle.js_calls.specs.Rows.{variables, with_prototype};
 
 /// What code declares.
 pub fn declared_names()
-    ensures variables { vars_in_all (body_of variables) ≡ map (λ c. c ∷ []) (codes "abcdefghijklmnopqr") }
+    ensures variables { vars_in_all (body_of variables)
+        ≡ map (λ c. c ∷ []) (codes "abcdefghijklmnopqr") }
     ensures no_variables { vars_in_all (body_of (declared (codes "f") [] ∷ [])) ≡ [] }
     ensures functions { names_of (functions_of (body_of (var (codes "a") ∷ declared (codes "g") []
         ∷ declared (codes "f") [] ∷ declared (codes "g") [] ∷ [])))
@@ -63,8 +64,8 @@ pub fn entries()
 
 /// The object of `arguments`.
 pub fn argument_objects()
-    ensures shared_indices { properties_of (entered_with bare (whole 1 ∷ whole 2 ∷ whole 3 ∷ [])).heap
-        13 ≡ holding length_name (whole 3) hidden_only ∷ sharing 0 1 0 ∷ sharing 1 1 1
+    ensures shared_indices { properties_of
+        (entered_with bare (whole 1 ∷ whole 2 ∷ whole 3 ∷ [])).heap 13 ≡ holding length_name (whole 3) hidden_only ∷ sharing 0 1 0 ∷ sharing 1 1 1
         ∷ holding (codes "2") (whole 3) hidden_only ∷ [] }
     ensures fewer { properties_of (entered_with bare (whole 1 ∷ [])).heap 13
         ≡ holding length_name (whole 1) hidden_only ∷ sharing 0 1 0 ∷ [] }

@@ -1,0 +1,2 @@
+pub mod Avoiding
+pub mod Steps

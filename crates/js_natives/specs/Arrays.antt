@@ -1,5 +1,5 @@
 -- Array, and Array.prototype but for what moves elements (ES3 15.4).
-use Rattle.std.specs.Prelude.{ℕ, zero, suc, ◌-◌, pos, Bool, true, false, if◌then◌else◌}
+use Rattle.std.specs.Prelude.{ℕ, zero, suc, pos, Bool, true, false, if◌then◌else◌}
 use Rattle.std.specs.Prelude.{List, [], ◌∷◌, codes}
 use Rattle.js_values.specs.declared.number.Num.{Num}
 use Rattle.js_values.specs.declared.number.Num.TheVariants.{Whole}

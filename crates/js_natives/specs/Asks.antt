@@ -1,5 +1,5 @@
 -- Asks in `do` notation, and how a native ends.
-use Rattle.std.specs.Prelude.{ℕ, ◌^◌, Bool, nat_le, if◌then◌else◌, ℤ, pos, List, ◌++◌, length}
+use Rattle.std.specs.Prelude.{ℕ, ◌^◌, Bool, nat_le, if◌then◌else◌, pos, ◌++◌, length}
 use Rattle.std.specs.Prelude.{Option, is_some}
 use Rattle.js_values.specs.declared.number.Num.{Num}
 use Rattle.js_values.specs.declared.number.Num.TheVariants.{Whole}

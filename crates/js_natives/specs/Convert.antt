@@ -1,7 +1,7 @@
 -- How natives convert `this` and their arguments: `this` first, and then the arguments that there
 -- are, from the left.
-use Rattle.std.specs.Prelude.{ℕ, ℤ, pos, ◌%◌, ◌^◌, List, [], ◌∷◌, codes, length, slice_get}
-use Rattle.std.specs.Prelude.{unwrap_or}
+use Rattle.std.specs.Prelude.{ℕ, suc, ◌-◌, ◌%◌, ◌^◌, min, ℤ, pos, negsuc, List, [], ◌∷◌, codes}
+use Rattle.std.specs.Prelude.{length, slice_get, unwrap_or}
 use Rattle.js_values.specs.declared.number.Num.{Num}
 use Rattle.js_values.specs.declared.number.Num.TheVariants.{NaN, Whole}
 use Rattle.js_values.specs.declared.value.Value.{Value}
@@ -157,3 +157,16 @@ integer_at args i = integer_of (number_at args i)
 
 abbrev pub uint16_of : Num → ℕ
 uint16_of n = uint32_of n % 2 ^ 16
+
+-- ---- positions, of which there are as many as the length tells, and one more. A difference of two
+-- is 0 where it would be negative.
+
+-- one that counts from the end where it is negative (15.4.4.10, 15.4.4.12, 15.5.4.13)
+abbrev pub from_either_end : ℤ → ℕ → ℕ
+from_either_end (pos n) length = min n length
+from_either_end (negsuc n) length = length - suc n
+
+-- one that is 0 where it is negative (15.5.4.7, 15.5.4.8, 15.5.4.15)
+abbrev pub within : ℤ → ℕ → ℕ
+within (pos n) length = min n length
+within (negsuc n) length = 0

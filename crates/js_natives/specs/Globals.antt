@@ -1,5 +1,5 @@
 -- The functions of the global object (ES3 15.1.2), and `on` of `host`.
-use Rattle.std.specs.Prelude.{ℕ, zero, suc, ◌==◌, ◌&&◌, ◌||◌, nat_le, nat_lt, Bool, true, false}
+use Rattle.std.specs.Prelude.{ℕ, ◌==◌, ◌&&◌, ◌||◌, nat_le, nat_lt, Bool, true, false}
 use Rattle.std.specs.Prelude.{if◌then◌else◌, ℤ, pos, negsuc, neg_ℤ, List, [], ◌∷◌, take_while}
 use Rattle.std.specs.Prelude.{Result, Ok, Err}
 use Rattle.std.specs.Char.{digit_value}
@@ -17,8 +17,7 @@ use Rattle.object_heap.specs.declared.object.Class.TheVariants as class
 use Rattle.object_heap.specs.Names.{Name}
 use Rattle.js_natives.specs.declared.answer.ErrorKind.TheVariants.{TypeError}
 use Rattle.js_natives.specs.declared.answer.Answer.{Answer}
-use Rattle.js_natives.specs.Program.{Program}
-use Rattle.js_natives.specs.Asks.{Asks, ◌>>=◌, ◌>>◌, pure, class_of, listen, stop, throw}
+use Rattle.js_natives.specs.Asks.{Asks, ◌>>=◌, ◌>>◌, class_of, listen, stop, throw}
 use Rattle.js_natives.specs.Asks.{number_answer, truth_answer, undefined_answer}
 use Rattle.js_natives.specs.Convert.{argument, text_at, number_at}
 
@@ -54,14 +53,15 @@ perhaps_hexadecimal negative radix s =
     if has_prefix s then number_of_digits negative 16 (digits_in 16 (behind_prefix s))
     else number_of_digits negative radix (digits_in radix s)
 
--- steps 7 to 12: a radix of 0 is ten, and the prefix may stand there and in sixteen alone; a leading
--- `0` has no meaning
+-- steps 7 to 12: a radix of 0 is ten, and the prefix may stand there and in sixteen alone; `0` in
+-- front has no meaning
 abbrev pub by_radix : Bool → ℤ → Name → Asks Answer
 by_radix negative (negsuc radix) s = number_answer NaN
 by_radix negative (pos radix) s =
     if radix == 0 then perhaps_hexadecimal negative 10 s
     else if radix == 16 then perhaps_hexadecimal negative 16 s
-    else if nat_le 2 radix && nat_le radix 36 then number_of_digits negative radix (digits_in radix s)
+    else if nat_le 2 radix && nat_le radix 36 then
+    number_of_digits negative radix (digits_in radix s)
     else number_answer NaN
 
 -- steps 2 to 6

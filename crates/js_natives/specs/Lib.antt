@@ -12,4 +12,5 @@ pub mod MathNatives
 pub mod Errors
 pub mod Globals
 pub mod Natives
+pub mod Laws
 pub mod Rows

@@ -1,11 +1,10 @@
 -- Math (ES3 15.8.2). The arguments have been converted by ToNumber.
-use Rattle.std.specs.Prelude.{ℕ, ℤ, pos, unsigned_abs, int_lt, if◌then◌else◌, List, [], ◌∷◌}
+use Rattle.std.specs.Prelude.{pos, unsigned_abs, int_lt, if◌then◌else◌, List, [], ◌∷◌}
 use Rattle.js_values.specs.declared.number.Num.{Num}
 use Rattle.js_values.specs.declared.number.Num.TheVariants.{NaN, Whole}
 use Rattle.js_values.specs.declared.reason.Reason.TheVariants.{Infinite}
 use Rattle.js_values.specs.declared.value.Value.{Value}
 use Rattle.js_natives.specs.declared.answer.Answer.{Answer}
-use Rattle.js_natives.specs.Program.{Program}
 use Rattle.js_natives.specs.Asks.{Asks, stop, number_answer}
 use Rattle.js_natives.specs.Convert.{number_at, number_in}
 
@@ -18,8 +17,8 @@ size_of (Whole z) = Whole (pos (unsigned_abs z))
 abbrev pub abs : Value → List Value → Asks Answer
 abs this args = number_answer (size_of (number_at args 0))
 
--- ---- Math.floor (x), Math.ceil (x) and Math.round (x) (15.8.2.9, 15.8.2.6, 15.8.2.15): a number is
--- whole
+-- ---- Math.floor (x), Math.ceil (x) and Math.round (x) (15.8.2.9, 15.8.2.6, 15.8.2.15): each number
+-- is whole
 
 abbrev pub as_number : Value → List Value → Asks Answer
 as_number this args = number_answer (number_at args 0)

@@ -1,7 +1,7 @@
 -- The natives of Array.prototype that move elements: reverse, shift, slice, splice and unshift (ES3
 -- 15.4.4.8 to 15.4.4.13).
 use Rattle.std.specs.Prelude.{ℕ, zero, suc, ◌+◌, ◌-◌, ◌/◌, min, ℤ, pos, negsuc, Bool, true, false}
-use Rattle.std.specs.Prelude.{nat_lt, nat_eq, if◌then◌else◌, List, [], ◌∷◌, drop}
+use Rattle.std.specs.Prelude.{nat_lt, if◌then◌else◌, List, [], ◌∷◌, drop}
 use Rattle.js_values.specs.declared.value.Value.{Value}
 use Rattle.js_values.specs.declared.value.Value.TheVariants as value
 use Rattle.object_heap.specs.Arrays.{whole}
@@ -13,7 +13,7 @@ use Rattle.js_natives.specs.Asks.{delete, value_answer, whole_answer, object_ans
 use Rattle.js_natives.specs.Asks.{undefined_answer}
 use Rattle.js_natives.specs.Indices.{indices, downward}
 use Rattle.js_natives.specs.This.{this_object}
-use Rattle.js_natives.specs.Convert.{argument, count_of, integer_of}
+use Rattle.js_natives.specs.Convert.{argument, count_of, from_either_end, integer_of}
 use Rattle.js_natives.specs.Arrays.{length_of, new_array, copied, put_length, with_length}
 
 -- ---- what several have
@@ -23,12 +23,6 @@ abbrev pub integer : Value → Asks ℤ
 integer v = do
   n ← number v
   pure (integer_of n)
-
--- an index that counts from the end where it is negative, from 0 up to the length: step 5 of `slice`
--- and of `splice`. A difference of two numbers is 0 where it would be negative.
-abbrev pub counted : ℤ → ℕ → ℕ
-counted (pos n) length = min n length
-counted (negsuc n) length = length - suc n
 
 -- the element at an index goes to another, or that one goes where there is none
 abbrev pub moved_one : Bool → ℕ → ℕ → ℕ → Program → Program
@@ -92,19 +86,19 @@ shift this args = do
 
 -- ---- Array.prototype.slice (start, end) (15.4.4.10)
 
-abbrev pub counted_end : Value → ℕ → Asks ℕ
-counted_end v length = do
+abbrev pub converted_end : Value → ℕ → Asks ℕ
+converted_end v length = do
   n ← integer v
-  pure (counted n length)
+  pure (from_either_end n length)
 
 -- steps 7 and 8: an end that is undefined is the length
 abbrev pub end_of : Value → ℕ → Asks ℕ
 end_of value.Undefined length = pure length
-end_of value.Null length = counted_end value.Null length
-end_of (value.Bool b) length = counted_end (value.Bool b) length
-end_of (value.Num n) length = counted_end (value.Num n) length
-end_of (value.Str s) length = counted_end (value.Str s) length
-end_of (value.Object o) length = counted_end (value.Object o) length
+end_of value.Null length = converted_end value.Null length
+end_of (value.Bool b) length = converted_end (value.Bool b) length
+end_of (value.Num n) length = converted_end (value.Num n) length
+end_of (value.Str s) length = converted_end (value.Str s) length
+end_of (value.Object o) length = converted_end (value.Object o) length
 
 -- steps 10 to 18: for each index k the element at k + start is copied to k of the new array
 abbrev pub copies : List ℕ → ℕ → ℕ → ℕ → Program → Program
@@ -113,14 +107,19 @@ copies (k ∷ ks) o start made p =
     step (has o (decimal (k + start)) (λ is_there.
     copied is_there o (k + start) made k (copies ks o start made p)))
 
--- steps 2 to 20
+-- steps 9 to 20
+abbrev pub copied_part : ℕ → ℕ → ℕ → ℕ → Asks Answer
+copied_part o made start end = do
+  copies (indices 0 (end - start)) o start made
+  with_length made (end - start)
+
+-- steps 2 to 8
 abbrev pub sliced : ℕ → ℕ → Value → Value → Asks Answer
 sliced o made from to = do
   length ← length_of o
   n ← integer from
   end ← end_of to length
-  copies (indices 0 (end - counted n length)) o (counted n length) made
-  with_length made (end - counted n length)
+  copied_part o made (from_either_end n length) end
 
 abbrev pub slice : Value → List Value → Asks Answer
 slice this args = do
@@ -145,15 +144,23 @@ abbrev pub deletes : List ℕ → ℕ → Program → Program
 deletes [] o p = p
 deletes (k ∷ ks) o p = step (delete o (decimal k) (deletes ks o p))
 
--- steps 18 to 47: what stands behind the elements that go moves to behind those that come, from the
--- left where these are fewer, and then what stands last goes; from the right where they are more
-abbrev pub closed_up : ℕ → ℕ → ℕ → ℕ → ℕ → Program → Program
-closed_up o length start gone come p =
-    if nat_lt come gone then
-      moved (indices start (length - gone - start)) o gone come
-      (deletes (downward (length - gone + come) (gone - come)) o p)
-    else if nat_lt gone come then
-      moved (downward start (length - gone - start)) o gone come p
+-- steps 20 to 36: what stands behind moves to the left, beginning at the left, and then the last
+-- ones go
+abbrev pub closed : ℕ → ℕ → ℕ → ℕ → ℕ → Program → Program
+closed o length start gone come p =
+    moved (indices start (length - gone - start)) o gone come
+    (deletes (downward (length - gone + come) (gone - come)) o p)
+
+-- steps 37 to 47: it moves to the right, beginning at the right
+abbrev pub opened : ℕ → ℕ → ℕ → ℕ → ℕ → Program → Program
+opened o length start gone come p =
+    moved (downward start (length - gone - start)) o gone come p
+
+-- steps 18 and 19: where fewer come than go, where more come, and where as many do
+abbrev pub closed_or_opened : ℕ → ℕ → ℕ → ℕ → ℕ → Program → Program
+closed_or_opened o length start gone come p =
+    if nat_lt come gone then closed o length start gone come p
+    else if nat_lt gone come then opened o length start gone come p
     else p
 
 -- steps 7 to 54
@@ -161,7 +168,7 @@ abbrev pub spliced : ℕ → ℕ → ℕ → ℕ → ℕ → List Value → Asks
 spliced o made length start gone items = do
   copies (indices 0 gone) o start made
   write made length_name (whole gone)
-  closed_up o length start gone (count_of items)
+  closed_or_opened o length start gone (count_of items)
   put_elements items o start
   put_length o (length - gone + count_of items)
   object_answer made
@@ -173,8 +180,8 @@ splice this args = do
   length ← length_of o
   n ← integer (argument args 0)
   count ← integer (argument args 1)
-  spliced o made length (counted n length)
-    (min (at_least_zero count) (length - counted n length)) (drop 2 args)
+  spliced o made length (from_either_end n length)
+      (min (at_least_zero count) (length - from_either_end n length)) (drop 2 args)
 
 -- ---- Array.prototype.unshift (item1, item2, ..) (15.4.4.13)
 

@@ -1,5 +1,5 @@
 -- The table of the natives (ES3 15): how each takes its `this` and its arguments, and what it does.
-use Rattle.std.specs.Prelude.{ℕ, List, [], ◌∷◌, Option, Some, None}
+use Rattle.std.specs.Prelude.{List, [], ◌∷◌, Option, Some, None}
 use Rattle.js_values.specs.declared.value.Value.{Value}
 use Rattle.object_heap.specs.declared.built_in.BuiltIn.{BuiltIn}
 use Rattle.object_heap.specs.declared.built_in.BuiltIn.TheVariants as built
@@ -10,7 +10,7 @@ use Rattle.js_natives.specs.Program.{Program}
 use Rattle.js_natives.specs.Asks.{Asks, ended, undefined_answer}
 use Rattle.js_natives.specs.Convert.{Takes, takes, takes_all, converting}
 use Rattle.js_natives.specs.Convert.{Unseen, AnObject, ATruth, ANumber, AText, MadeText}
-use Rattle.js_natives.specs.Convert.{Kept, ToText, ToNumber, ToTextIfAny, ToNumberIfAny}
+use Rattle.js_natives.specs.Convert.{ToText, ToNumber, ToTextIfAny, ToNumberIfAny}
 use Rattle.js_natives.specs.Objects as objects
 use Rattle.js_natives.specs.Arrays as arrays
 use Rattle.js_natives.specs.Moves as moves
@@ -23,8 +23,8 @@ use Rattle.js_natives.specs.Globals as globals
 -- ---- what each does
 
 pub data Plan : Type 0 where
-  -- `this` and the arguments are converted, and then comes a row, which asks the heap alone; that of
-  -- `on` listens
+  -- `this` and the arguments are converted, and then comes a row, which asks the heap alone (that of
+  -- `on` listens)
   Converts : (takes : Takes) → (row : Value → List Value → Asks Answer) → Plan
   -- it converts what it needs as it goes
   Goes : (program : Value → List Value → Asks Answer) → Plan

@@ -1,15 +1,13 @@
 -- Number and Boolean, with their prototypes (ES3 15.7, 15.6).
-use Rattle.std.specs.Prelude.{ℕ, Bool, ◌&&◌, nat_le, if◌then◌else◌, ℤ, pos, negsuc, List, [], ◌∷◌}
+use Rattle.std.specs.Prelude.{◌&&◌, nat_le, if◌then◌else◌, ℤ, pos, negsuc, List, [], ◌∷◌}
 use Rattle.js_values.specs.declared.number.Num.{Num}
-use Rattle.js_values.specs.declared.number.Num.TheVariants.{Whole}
 use Rattle.js_values.specs.declared.value.Value.{Value}
 use Rattle.js_values.specs.declared.value.Value.TheVariants as value
 use Rattle.js_values.specs.Numerals.{number_text}
 use Rattle.js_values.specs.Values.{text_of_bool, truth_of}
 use Rattle.js_natives.specs.declared.answer.ErrorKind.TheVariants.{RangeError}
 use Rattle.js_natives.specs.declared.answer.Answer.{Answer}
-use Rattle.js_natives.specs.Program.{Program}
-use Rattle.js_natives.specs.Asks.{Asks, ◌>>=◌, pure, throw, number_answer, text_answer, whole_answer}
+use Rattle.js_natives.specs.Asks.{Asks, ◌>>=◌, throw, number_answer, text_answer, whole_answer}
 use Rattle.js_natives.specs.Asks.{truth_answer}
 use Rattle.js_natives.specs.This.{this_number, this_truth}
 use Rattle.js_natives.specs.Convert.{argument, integer_of, number_in}

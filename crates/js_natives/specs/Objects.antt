@@ -1,6 +1,6 @@
 -- Object and Object.prototype (ES3 15.2), and `toString` of Function.prototype (15.3.4).
-use Rattle.std.specs.Prelude.{ℕ, Bool, true, false, not, List, codes, ◌++◌, Option, Some, None}
-use Rattle.std.specs.Prelude.{is_some, if◌then◌else◌}
+use Rattle.std.specs.Prelude.{ℕ, Bool, false, not, List, codes, ◌++◌, Option, Some, None}
+use Rattle.std.specs.Prelude.{if◌then◌else◌}
 use Rattle.js_values.specs.declared.reason.Reason.TheVariants as reason
 use Rattle.js_values.specs.declared.value.Value.{Value}
 use Rattle.js_values.specs.declared.value.Value.TheVariants as value
@@ -12,7 +12,6 @@ use Rattle.object_heap.specs.BuiltIns.{number_of}
 use Rattle.object_heap.specs.Names.{Name, is_reserved}
 use Rattle.js_natives.specs.declared.answer.ErrorKind.TheVariants.{TypeError}
 use Rattle.js_natives.specs.declared.answer.Answer.{Answer}
-use Rattle.js_natives.specs.Program.{Program}
 use Rattle.js_natives.specs.Asks.{Asks, ◌>>=◌, pure, make, class_of, own, has, behind, stop, throw}
 use Rattle.js_natives.specs.Asks.{truth_answer, text_answer, object_answer, value_answer}
 use Rattle.js_natives.specs.This.{this_object}

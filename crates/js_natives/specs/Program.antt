@@ -11,7 +11,6 @@ use Rattle.js_natives.specs.declared.answer.Answer.{Answer}
 pub data Program : Type 0 where
   -- the native has ended
   Done : (answer : Answer) → Program
-
   -- ---- what the machine does
 
   -- a step is due, at each turn of a loop over indices
@@ -27,7 +26,6 @@ pub data Program : Type 0 where
   Put : (o : ℕ) → (name : Name) → (v : Value) → (p : Program) → Program
   -- the function is registered as a listener for events of this type
   Listen : (event : Name) → (f : ℕ) → (p : Program) → Program
-
   -- ---- what is done on the heap alone
 
   -- a new object

@@ -1,6 +1,6 @@
 -- Runs of natives for the rows: on a small heap, with a list of what was asked.
-use Rattle.std.specs.Prelude.{ℕ, zero, suc, Bool, false, List, [], ◌∷◌, ◌++◌, length, replicate}
-use Rattle.std.specs.Prelude.{ℤ, pos, neg_ℤ, codes, Option, Some, None, option_map, unwrap_or}
+use Rattle.std.specs.Prelude.{ℕ, suc, false, List, [], ◌∷◌, ◌++◌, length, replicate}
+use Rattle.std.specs.Prelude.{pos, neg_ℤ, codes, Option, Some, None, option_map, unwrap_or}
 use Rattle.std.specs.Prelude.{Result, Ok, Err, map, sum}
 use Rattle.js_values.specs.declared.number.Num.{Num}
 use Rattle.js_values.specs.declared.number.Num.TheVariants as number
@@ -230,9 +230,11 @@ wholes ns = map (λ n. Some (whole n)) ns
 -- a native called on the array of these elements: its answer, the array's elements then, and the
 -- steps
 abbrev pub on_array : Native → List Value → List (Option Value) → Answer × List (Option Value) × ℕ
-on_array n args vs =
-    (answered n (o 13) args (one_array vs), elements_of (left n (o 13) args (one_array vs)) 13,
-    steps n (o 13) args (one_array vs))
+on_array n args vs = (
+  answered n (o 13) args (one_array vs),
+  elements_of (left n (o 13) args (one_array vs)) 13,
+  steps n (o 13) args (one_array vs),
+)
 
 -- the elements of the array that it made
 abbrev pub made_by : Native → List Value → List (Option Value) → List (Option Value)

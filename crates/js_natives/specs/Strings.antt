@@ -1,6 +1,6 @@
 -- String and String.prototype (ES3 15.5). `this` and the arguments have been converted: step 1 of
 -- each, and those steps that convert an argument.
-use Rattle.std.specs.Prelude.{ℕ, zero, suc, ◌-◌, ◌^◌, min, max, ℤ, pos, negsuc, neg_ℤ, Bool}
+use Rattle.std.specs.Prelude.{ℕ, zero, suc, ◌-◌, ◌^◌, min, max, ℤ, pos, negsuc, neg_ℤ}
 use Rattle.std.specs.Prelude.{◌&&◌, nat_eq, nat_le, if◌then◌else◌, List, [], ◌∷◌, ◌++◌, map}
 use Rattle.std.specs.Prelude.{length, take, drop, slice_get, Option, Some, None}
 use Rattle.std.specs.List.{starts_with, flat_map}
@@ -12,13 +12,12 @@ use Rattle.js_values.specs.declared.reason.Reason.TheVariants.{Wrapper}
 use Rattle.js_values.specs.Integers.{uint32_of}
 use Rattle.object_heap.specs.Names.{Name}
 use Rattle.js_natives.specs.declared.answer.Answer.{Answer}
-use Rattle.js_natives.specs.Program.{Program}
 use Rattle.js_natives.specs.Asks.{Asks, ◌>>=◌, ◌>>◌, stop, made_text, text_answer, number_answer}
 use Rattle.js_natives.specs.Asks.{object_answer}
 use Rattle.js_natives.specs.This.{this_text}
 use Rattle.js_natives.specs.Convert.{argument, argument_converted, integer_at, number_at, number_in}
 use Rattle.js_natives.specs.Convert.{text_at, text_in, this_converted, uint16_of, integer_of}
-use Rattle.js_natives.specs.Convert.{MadeText, ToTextIfAny, ToNumberIfAny}
+use Rattle.js_natives.specs.Convert.{from_either_end, within, MadeText, ToTextIfAny, ToNumberIfAny}
 use Rattle.js_natives.specs.Arrays.{new_array, with_elements}
 
 -- ---- String ([value]) (15.5.1.1), and new String (15.5.2.1)
@@ -75,11 +74,6 @@ string_concat this args = do
 
 -- ---- String.prototype.indexOf (searchString, position) (15.5.4.7)
 
--- a position that is cut to those of a text: steps 5, and 5 and 6 of `substring`
-abbrev pub within : ℤ → ℕ → ℕ
-within (pos n) length = min n length
-within (negsuc n) length = 0
-
 -- step 7, where k is the position of the text that is left
 abbrev pub first_place : ℕ → Name → Name → Option ℕ
 first_place k sought [] = if starts_with nat_eq [] sought then Some k else None
@@ -94,6 +88,7 @@ place_number (Some k) = Whole (pos k)
 abbrev pub index_in : Name → Name → ℕ → Asks Answer
 index_in s sought start = number_answer (place_number (first_place start sought (drop start s)))
 
+-- steps 4 and 5
 abbrev pub index_of : Value → List Value → Asks Answer
 index_of this args =
     index_in (text_in this) (text_at args 0)
@@ -129,11 +124,6 @@ last_index_of this args =
 abbrev pub between : ℕ → ℕ → Name → Name
 between start end s = take (end - start) (drop start s)
 
--- steps 5 and 6: a position that counts from the end where it is negative
-abbrev pub from_either_end : ℤ → ℕ → ℕ
-from_either_end (pos n) length = min n length
-from_either_end (negsuc n) length = length - suc n
-
 -- step 4: an end that is undefined is that of the text
 abbrev pub end_at : (ℤ → ℕ → ℕ) → Value → ℕ → ℕ
 end_at counted value.Undefined length = length
@@ -143,6 +133,7 @@ end_at counted (value.Num n) length = counted (integer_of n) length
 end_at counted (value.Str s) length = length
 end_at counted (value.Object o) length = length
 
+-- steps 5 to 8
 abbrev pub sliced_text : Name → ℤ → Value → Name
 sliced_text s start end =
     between (from_either_end start (length s)) (end_at from_either_end end (length s)) s
@@ -212,6 +203,7 @@ split this args = do
 abbrev pub between_both : ℕ → ℕ → Name → Name
 between_both a b s = between (min a b) (max a b) s
 
+-- steps 5 and 6
 abbrev pub substring_of : Name → ℤ → Value → Name
 substring_of s start end =
     between_both (within start (length s)) (end_at within end (length s)) s

@@ -1,6 +1,6 @@
 -- What a native takes as its `this`. An undefined or null one is the global object. A boolean, a
--- number or a text would have to be put into an object, unless the native is one of the prototype of
--- its own kind, or of String.prototype: the run stops.
+-- number or a text would have to be put into an object, unless the native is of the prototype of its
+-- own kind, or of String.prototype: the run stops.
 use Rattle.std.specs.Prelude.{ℕ, Bool}
 use Rattle.js_values.specs.declared.number.Num.{Num}
 use Rattle.js_values.specs.declared.reason.Reason.TheVariants.{Wrapper}

@@ -144,7 +144,8 @@ pub fn popped_elements()
 pub fn pushed_elements()
     ensures two { on_array native.Push (whole 7 ∷ whole 8 ∷ []) (wholes (1 ∷ []))
         ≡ (gives (whole 3), wholes (1 ∷ 7 ∷ 8 ∷ []), 0) }
-    ensures none { on_array native.Push [] (wholes (1 ∷ [])) ≡ (gives (whole 1), wholes (1 ∷ []), 0) }
+    ensures none { on_array native.Push [] (wholes (1 ∷ []))
+        ≡ (gives (whole 1), wholes (1 ∷ []), 0) }
     ensures order { asks native.Push (o 13) (o 5 ∷ o 6 ∷ []) (one_array (wholes (1 ∷ [])))
         ≡ AGet 13 length_name ∷ ANumber (whole 1) ∷ APut 13 (codes "1") (o 5)
         ∷ APut 13 (codes "2") (o 6) ∷ APut 13 length_name (whole 3) ∷ [] }

@@ -3,6 +3,7 @@
 
 mod answer;
 mod array_rows;
+mod laws;
 mod move_rows;
 mod native;
 mod number_rows;
@@ -15,6 +16,7 @@ pub use answer::{Answer, ErrorKind};
 pub use array_rows::{
     array_texts, concatenated_arrays, joined_elements, new_arrays, popped_elements, pushed_elements,
 };
+pub use laws::{long_texts_stop, natives_avoid, steps_are_of_indices};
 pub use move_rows::{
     reversed_elements, shifted_elements, sliced_arrays, spliced_elements, taken_out,
     unshifted_elements,

@@ -12,7 +12,7 @@ ghost use Rattle.object_heap.specs.Names.{length_name};
 ghost use Rattle.js_natives.specs.declared.answer.Answer.TheVariants as answer;
 ghost use Rattle.js_natives.specs.declared.answer.ErrorKind.TheVariants as kind;
 ghost use Rattle.js_natives.specs.declared.native.Native.TheVariants as native;
-ghost use Rattle.js_natives.specs.Rows.{AGet, ANumber, APut, AStep, answered, answers_to, array_over};
+ghost use Rattle.js_natives.specs.Rows.{AGet, ANumber, APut, AStep, answers_to, array_over};
 ghost use Rattle.js_natives.specs.Rows.{asks, elements_of, full_array, gives, left, made_by, minus};
 ghost use Rattle.js_natives.specs.Rows.{nan, o, on_array, one_array, one_object, own_value};
 ghost use Rattle.js_natives.specs.Rows.{primitives, wholes};
@@ -111,8 +111,8 @@ pub fn taken_out()
 
 /// What `splice` leaves.
 pub fn spliced_elements()
-    ensures fewer { on_array native.Splice (whole 1 ∷ whole 2 ∷ []) (wholes (1 ∷ 2 ∷ 3 ∷ 4 ∷ 5 ∷ []))
-        ≡ (gives (o 14), wholes (1 ∷ 4 ∷ 5 ∷ []), 6) }
+    ensures fewer { on_array native.Splice (whole 1 ∷ whole 2 ∷ [])
+        (wholes (1 ∷ 2 ∷ 3 ∷ 4 ∷ 5 ∷ [])) ≡ (gives (o 14), wholes (1 ∷ 4 ∷ 5 ∷ []), 6) }
     ensures as_many { on_array native.Splice (whole 1 ∷ whole 2 ∷ whole 8 ∷ whole 9 ∷ [])
         (wholes (1 ∷ 2 ∷ 3 ∷ 4 ∷ [])) ≡ (gives (o 14), wholes (1 ∷ 8 ∷ 9 ∷ 4 ∷ []), 2) }
     ensures more { on_array native.Splice (whole 1 ∷ whole 1 ∷ whole 7 ∷ whole 8 ∷ whole 9 ∷ [])

@@ -8,8 +8,8 @@ ghost use Rattle.object_heap.specs.Arrays.{whole};
 ghost use Rattle.js_natives.specs.declared.answer.Answer.TheVariants as answer;
 ghost use Rattle.js_natives.specs.declared.answer.ErrorKind.TheVariants as kind;
 ghost use Rattle.js_natives.specs.declared.native.Native.TheVariants as native;
-ghost use Rattle.js_natives.specs.Rows.{ANumber, answered, answers_to, asks, few, gives, gives_text};
-ghost use Rattle.js_natives.specs.Rows.{minus, nan, o, of_number};
+ghost use Rattle.js_natives.specs.Rows.{ANumber, answered, answers_to, asks, few, gives};
+ghost use Rattle.js_natives.specs.Rows.{gives_text, minus, nan, o, of_number};
 
 /// `Number(v)`, `Boolean(v)`, and both with `new`.
 pub fn numbers_and_truths()

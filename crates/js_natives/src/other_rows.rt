@@ -11,8 +11,8 @@ ghost use Rattle.object_heap.specs.Objects.{class_of, properties_of, prototype_o
 ghost use Rattle.js_natives.specs.declared.answer.Answer.TheVariants as answer;
 ghost use Rattle.js_natives.specs.declared.answer.ErrorKind.TheVariants as kind;
 ghost use Rattle.js_natives.specs.declared.native.Native.TheVariants as native;
-ghost use Rattle.js_natives.specs.Rows.{AGet, AListener, ANumber, AText, answered, answers_to, asks};
-ghost use Rattle.js_natives.specs.Rows.{few, gives, gives_text, left, minus, nan, o, one_object};
+ghost use Rattle.js_natives.specs.Rows.{AGet, AListener, ANumber, AText, answered, answers_to};
+ghost use Rattle.js_natives.specs.Rows.{asks, few, gives, gives_text, left, minus, nan, o, one_object};
 ghost use Rattle.js_natives.specs.Rows.{parsed, parsed_in, primitives};
 
 /// `Error(..)` and those of the three kinds, and with `new`.
@@ -24,8 +24,8 @@ pub fn new_errors()
     ensures prototypes { map (λ n. prototype_of (left n value.Undefined [] few) 13) (native.Error
         ∷ native.TypeError ∷ native.ReferenceError ∷ native.RangeError ∷ [])
         ≡ Some 6 ∷ Some 7 ∷ Some 8 ∷ Some 9 ∷ [] }
-    ensures without_message { map (λ args. properties_of (left native.Error value.Undefined args few)
-        13) ([] ∷ (value.Undefined ∷ []) ∷ []) ≡ replicate 2 [] }
+    ensures without_message { map (λ args. properties_of
+        (left native.Error value.Undefined args few) 13) ([] ∷ (value.Undefined ∷ []) ∷ []) ≡ replicate 2 [] }
     ensures with_message { properties_of (left native.TypeError value.Undefined (whole 5 ∷ []) few)
         13 ≡ holding (codes "message") (value.Str (codes "5")) no_attributes ∷ [] }
     ensures with_empty_message { properties_of (left native.Error value.Undefined

@@ -11,8 +11,8 @@ ghost use Rattle.js_natives.specs.declared.answer.Answer.TheVariants as answer;
 ghost use Rattle.js_natives.specs.declared.answer.ErrorKind.TheVariants as kind;
 ghost use Rattle.js_natives.specs.declared.native.Native.TheVariants as native;
 ghost use Rattle.js_natives.specs.Rows.{ANumber, AText, answered, answers_to, asks, few, gives};
-ghost use Rattle.js_natives.specs.Rows.{gives_text, left, minus, nan, o, primitives, split_of, texts};
-ghost use Rattle.js_natives.specs.Rows.{of_text};
+ghost use Rattle.js_natives.specs.Rows.{gives_text, left, minus, nan, o, of_text, primitives, split_of};
+ghost use Rattle.js_natives.specs.Rows.{texts};
 
 /// `String(v)` and `new String(v)`.
 pub fn texts_of_values()
@@ -126,8 +126,8 @@ pub fn last_places()
 pub fn parts_of_texts()
     ensures slice { of_text native.StringSlice (codes "abcdef") (whole 1 ∷ whole 3 ∷ [])
         ≡ gives_text (codes "bc") }
-    ensures slice_from_the_end { of_text native.StringSlice (codes "abcdef") (minus 3 ∷ minus 1 ∷ [])
-        ≡ gives_text (codes "de") }
+    ensures slice_from_the_end { of_text native.StringSlice (codes "abcdef")
+        (minus 3 ∷ minus 1 ∷ []) ≡ gives_text (codes "de") }
     ensures slice_crossed { of_text native.StringSlice (codes "abcdef") (whole 3 ∷ whole 1 ∷ [])
         ≡ gives_text [] }
     ensures slice_all { map (of_text native.StringSlice (codes "ab")) ([]
