@@ -1,5 +1,5 @@
 -- Small scripts of the rows on ES3 10, 13 and 15.3, each beside its text.
-use Rattle.std.specs.Prelude.{List, [], ◌∷◌, codes, Some}
+use Rattle.std.specs.Prelude.{List, [], ◌∷◌, codes, Some, true}
 use Rattle.js_tree.specs.declared.tree.BinaryOp.TheVariants as op
 use Rattle.js_tree.specs.declared.tree.PrefixOp.TheVariants as prefix
 use Rattle.js_tree.specs.declared.tree.Role.TheVariants.{Plain}
@@ -191,3 +191,66 @@ lengths =
     ∷ dot (dot (name (codes "host")) (codes "on")) (codes "length")
     ∷ dot (dot (dot (name (codes "Math")) (codes "abs")) (codes "call")) (codes "length")
     ∷ dot (dot (dot (name (codes "Math")) (codes "abs")) (codes "apply")) (codes "length") ∷ []
+
+-- `host.out(f.apply(o),f.apply(),f.call(o),f.call());`, where `var o={};function f(){return this===o;}`
+abbrev pub tests_this : List Stmt
+tests_this = declare 1 f [] (returns (same tree.This (name o)) ∷ []) ∷ var o empty ∷ []
+
+abbrev pub this_values : List Expr
+this_values =
+    call (dot (name f) (codes "apply")) (name o ∷ []) ∷ call (dot (name f) (codes "apply")) []
+    ∷ call (dot (name f) (codes "call")) (name o ∷ []) ∷ call (dot (name f) (codes "call")) [] ∷ []
+
+-- `(function(c){c();})(Math.abs.call)`, `Math.abs.call.call(null)`
+abbrev pub calls_undefined : List Stmt
+calls_undefined =
+    calls (function 1 (a ∷ []) (calls (name a) [] ∷ []))
+    (dot (dot (name (codes "Math")) (codes "abs")) (codes "call") ∷ []) ∷ []
+
+abbrev pub calls_null : List Stmt
+calls_null =
+    calls (dot (dot (dot (name (codes "Math")) (codes "abs")) (codes "call")) (codes "call"))
+    (tree.Null ∷ []) ∷ []
+
+-- lists that `apply` does not take: functions of each kind, Math, an error, a boolean and a text
+abbrev pub no_lists : List Expr
+no_lists =
+    dot (name (codes "Math")) (codes "abs") ∷ function 1 [] []
+    ∷ dot (name (codes "host")) (codes "out") ∷ name (codes "Math")
+    ∷ new (name (codes "Error")) [] ∷ tree.Truth true ∷ text a ∷ []
+
+-- `Object.prototype.toString.call(e)` of a function of each kind, and of what `nope` throws
+abbrev pub class_of : Expr → Expr
+class_of e = call (dot (dot empty (codes "toString")) (codes "call")) (e ∷ [])
+
+abbrev pub classes : List Expr
+classes =
+    class_of (function 1 [] []) ∷ class_of (dot (name (codes "Math")) (codes "abs"))
+    ∷ class_of (dot (name (codes "host")) (codes "out")) ∷ class_of (array [])
+    ∷ class_of empty ∷ []
+
+abbrev pub class_of_an_error : List Stmt
+class_of_an_error =
+    tree.Try (blocks (does (name (codes "nope")) ∷ []))
+    (ACatch e (blocks (shows (class_of (name e)
+    ∷ binary op.InstanceOf (name e) (name (codes "ReferenceError"))
+    ∷ call (dot (name e) (codes "hasOwnProperty")) (text (codes "message") ∷ []) ∷ []) ∷ [])))
+    NoStmt ∷ []
+
+-- `(255).toString(99);`, `[1,2,3].join();`, and `var a=[1,,];a.reverse();host.out(0 in a,a[1]);`
+abbrev pub throws_a_range_error : List Stmt
+throws_a_range_error = calls (dot (number 255) (codes "toString")) (number 99 ∷ []) ∷ []
+
+abbrev pub joins : List Stmt
+joins = calls (dot (array (one ∷ two ∷ number 3 ∷ [])) (codes "join")) [] ∷ []
+
+abbrev pub reverses : List Stmt
+reverses =
+    var a (tree.Array (tree.MoreElements (tree.AnExpr one)
+    (tree.MoreElements NoExpr tree.NoElements)))
+    ∷ calls (dot (name a) (codes "reverse")) []
+    ∷ shows (binary op.In (number 0) (name a) ∷ at (name a) one ∷ []) ∷ []
+
+-- `function f(){$dl_use(1);}f();`
+abbrev pub uses_alone : List Stmt
+uses_alone = declare 1 f [] (tree.Used 1 ∷ []) ∷ calls (name f) [] ∷ []

@@ -30,3 +30,4 @@ pub mod StatementScripts
 pub mod FunctionScripts
 pub mod PageScripts
 pub mod Laws
+pub mod KindScripts

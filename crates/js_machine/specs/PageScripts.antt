@@ -1,5 +1,5 @@
 -- Small pages of the rows, and scripts that stop, each beside its text.
-use Rattle.std.specs.Prelude.{ℕ, List, [], ◌∷◌, codes, pos}
+use Rattle.std.specs.Prelude.{ℕ, List, [], ◌∷◌, codes, pos, true}
 use Rattle.js_values.specs.declared.number.Num.TheVariants.{Whole}
 use Rattle.js_values.specs.declared.value.Value.{Value}
 use Rattle.js_values.specs.declared.value.Value.TheVariants as value
@@ -149,3 +149,24 @@ enters_with_text =
 abbrev pub stops_in_an_event : List Stmt
 stops_in_an_event =
     listens a (function 1 [] (does fraction ∷ [])) ∷ listens a (function 2 [] (says x ∷ [])) ∷ []
+
+-- `var o={};throw o;` and then `host.out({},o);`
+abbrev pub throws_first : List Stmt
+throws_first = var o empty ∷ tree.Throw (name o) ∷ []
+
+abbrev pub shows_then : List Stmt
+shows_then = shows (empty ∷ name o ∷ []) ∷ []
+
+-- `(function(){})+""`
+abbrev pub script_function_text : Expr
+script_function_text = binary op.Add (function 1 [] []) (text [])
+
+-- `Math.abs.apply.call(true)`, with a number and with a text
+abbrev pub applied_primitives : List Expr
+applied_primitives =
+    call (dot (dot (dot (name (codes "Math")) (codes "abs")) (codes "apply")) (codes "call"))
+    (tree.Truth true ∷ [])
+    ∷ call (dot (dot (dot (name (codes "Math")) (codes "abs")) (codes "apply")) (codes "call"))
+    (one ∷ [])
+    ∷ call (dot (dot (dot (name (codes "Math")) (codes "abs")) (codes "apply")) (codes "call"))
+    (text x ∷ []) ∷ []

@@ -9,6 +9,7 @@ use Rattle.js_tree.specs.Tree as tree
 use Rattle.js_machine.specs.Writing.{block, name, text, number, call, object, out, b}
 use Rattle.js_machine.specs.Writing.{shows, sets, blocks, var, declare, returns}
 use Rattle.js_machine.specs.Writing.{does, a, e, f, i, k, o, x}
+use Rattle.js_machine.specs.Writing.{spelled}
 use Rattle.js_machine.specs.Scripts.{counts, dot, at, visits}
 use Rattle.js_machine.specs.ExpressionScripts.{binary, unary, one, two, empty}
 
@@ -232,3 +233,24 @@ abbrev pub stops_in_a_try : List Stmt
 stops_in_a_try =
     tree.Try (blocks (does (binary op.Divide (number 7) two) ∷ []))
     (ACatch e (blocks (says a ∷ []))) (AStmt (blocks (says b ∷ []))) ∷ []
+
+-- `Number.prototype.x=1;Boolean.prototype.b=1;for(var k in 1)host.out(k);for(k in true)host.out(k);`
+abbrev pub visits_primitives : List Stmt
+visits_primitives =
+    sets (dot (dot (name (codes "Number")) (codes "prototype")) x) one
+    ∷ sets (dot (dot (name (codes "Boolean")) (codes "prototype")) b) one
+    ∷ visits k one (tells (name k)) ∷ visits k (tree.Truth true) (tells (name k)) ∷ []
+
+-- `a:for(var k in {a:1,b:1}){for(;;){host.out(k);continue a;}}`
+abbrev pub goes_on_with_visits : List Stmt
+goes_on_with_visits =
+    tree.Label a (visits k (object ((a, one) ∷ (b, one) ∷ [])) (blocks (
+    tree.For Nothing NoExpr NoExpr (blocks (tells (name k) ∷ tree.Continue (Some a) ∷ []))
+    ∷ []))) ∷ []
+
+-- `undefined[{toString:function(){host.out("k");return "x";}}];`, `for(var k in undefined);`
+abbrev pub reads_of_undefined : List Stmt
+reads_of_undefined = does (at (name (codes "undefined")) (spelled k (text x))) ∷ []
+
+abbrev pub visits_undefined : List Stmt
+visits_undefined = visits k (name (codes "undefined")) tree.Empty ∷ []

@@ -7,6 +7,7 @@ ghost use Rattle.js_values.specs.declared.shown.Shown.TheVariants as shown;
 ghost use Rattle.js_machine.specs.ExpressionScripts as small;
 ghost use Rattle.js_machine.specs.Rows.{behind, caught, lines, minus, number, numbers, out, text};
 ghost use Rattle.js_machine.specs.Rows.{texts, truth, values};
+ghost use Rattle.js_machine.specs.StatementScripts as statement;
 ghost use Rattle.js_machine.specs.Writing as tree;
 
 /// Primary expressions.
@@ -28,6 +29,8 @@ pub fn accesses_and_calls()
         ∷ shown.Undefined ∷ truth true ∷ truth true ∷ truth true ∷ []) ∷ [] }
     ensures of_null { caught small.reads_of_null ≡ numbers 1 ∷ texts (codes "TypeError") ∷ [] }
     ensures of_null_by_object { caught small.reads_of_null_by_object
+        ≡ texts (codes "TypeError") ∷ [] }
+    ensures of_undefined { caught statement.reads_of_undefined
         ≡ texts (codes "TypeError") ∷ [] }
     ensures by_keys { values small.by_keys
         ≡ texts tree.k ∷ out (number 2 ∷ number 3 ∷ []) ∷ [] }

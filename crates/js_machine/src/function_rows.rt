@@ -1,7 +1,7 @@
 //! Worked functions (ES3 10, 13, 15.3): these calls do nothing, and each says what the host sees,
 //! or how a run ends.
 
-ghost use Rattle.std.specs.Prelude.{◌≡◌, ◌∷◌, [], codes, true, false};
+ghost use Rattle.std.specs.Prelude.{◌≡◌, ◌∷◌, [], codes, true, false, map, replicate};
 ghost use Rattle.js_values.specs.declared.reason.Reason.TheVariants as reason;
 ghost use Rattle.js_values.specs.declared.shown.Shown.TheVariants as shown;
 ghost use Rattle.js_machine.specs.ExpressionScripts.{empty, nothing, one};
@@ -9,7 +9,8 @@ ghost use Rattle.js_machine.specs.FunctionScripts as small;
 ghost use Rattle.js_machine.specs.Logs.{Ended, Stopped, marks_of, seen};
 ghost use Rattle.js_machine.specs.Page.{original};
 ghost use Rattle.js_machine.specs.Rows.{ample, behind, caught, end_of, lines, number, numbers, out};
-ghost use Rattle.js_machine.specs.Rows.{page, text, texts, truth, values};
+ghost use Rattle.js_machine.specs.Rows.{page, run_of, text, texts, truth, values};
+ghost use Rattle.js_machine.specs.Run.{Entry, Idle, Used};
 ghost use Rattle.js_machine.specs.Scripts.{dot};
 ghost use Rattle.js_machine.specs.Writing as tree;
 
@@ -60,6 +61,19 @@ pub fn function_objects()
         ≡ out (number 0 ∷ number 2 ∷ number 1 ∷ number 2 ∷ []) ∷ [] }
 {}
 
+/// Natives in runs: what they ask is done as the machine does it.
+pub fn natives()
+    ensures classes { values small.classes ≡ out (text (codes "[object Function]")
+        ∷ text (codes "[object Function]") ∷ text (codes "[object Function]")
+        ∷ text (codes "[object Array]") ∷ text (codes "[object Object]") ∷ []) ∷ [] }
+    ensures class_of_an_error { lines small.class_of_an_error
+        ≡ out (text (codes "[object Error]") ∷ truth true ∷ truth false ∷ []) ∷ [] }
+    ensures range_error { caught small.throws_a_range_error ≡ texts (codes "RangeError") ∷ [] }
+    ensures steps { end_of small.joins ≡ (Ended, 11) }
+    ensures deletes { lines small.reverses ≡ out (truth false ∷ number 1 ∷ []) ∷ [] }
+    ensures use_alone { marks_of (run_of small.uses_alone) ≡ Entry 1 1 ∷ Used 1 1 ∷ Idle 1 ∷ [] }
+{}
+
 /// `this`, `call` and `apply`.
 pub fn applications()
     ensures applied { behind small.chooses_by_this small.applied ≡ out (number 1 ∷ number 2
@@ -72,6 +86,12 @@ pub fn applications()
     ensures list_of_undefined { caught (small.applies nothing) ≡ [] }
     ensures no_function { caught small.applies_no_function ≡ texts (codes "TypeError") ∷ [] }
     ensures a_text { end_of small.applies_a_text ≡ (Stopped reason.Wrapper, 14) }
+    ensures this_values { behind small.tests_this small.this_values
+        ≡ out (truth true ∷ truth false ∷ truth true ∷ truth false ∷ []) ∷ [] }
+    ensures undefined_called { caught small.calls_undefined ≡ texts (codes "TypeError") ∷ [] }
+    ensures null_called { caught small.calls_null ≡ texts (codes "TypeError") ∷ [] }
+    ensures no_lists { map (λ e. caught (small.applies e)) small.no_lists
+        ≡ replicate 7 (texts (codes "TypeError") ∷ []) }
     ensures three { end_of small.applies_three ≡ (Ended, 15) }
     ensures with_three { end_of small.calls_with_three ≡ (Ended, 11) }
     ensures a_number { caught (small.calls_value one) ≡ texts (codes "TypeError") ∷ [] }

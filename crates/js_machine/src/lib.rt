@@ -3,6 +3,7 @@
 
 mod expression_rows;
 mod function_rows;
+mod kind_rows;
 mod laws;
 mod operator_rows;
 mod page_rows;
@@ -13,7 +14,8 @@ mod written_rows;
 pub use expression_rows::{
     accesses_and_calls, choices_and_assignments, primary_expressions, unary_operators,
 };
-pub use function_rows::{applications, arguments_of_calls, bindings, function_objects};
+pub use function_rows::{applications, arguments_of_calls, bindings, function_objects, natives};
+pub use kind_rows::{steps_of_expressions, steps_of_statements};
 pub use laws::{
     lists_are_applied, long_texts_stop, nodes_have_parts, pages_grow, pages_rise, runs_grow,
     steps_rise,

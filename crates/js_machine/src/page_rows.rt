@@ -51,6 +51,9 @@ pub fn scripts()
     ensures throws { marks_of (original (tree.block small.throws_one ∷ tree.block (tree.shows
         (tree.text tree.k ∷ []) ∷ []) ∷ []) page ample)
         ≡ Uncaught (number 1) ∷ texts tree.k ∷ Idle 0 ∷ [] }
+    ensures ranks_of_thrown { marks_of (original (tree.block small.throws_first
+        ∷ tree.block small.shows_then ∷ []) page ample) ≡ Uncaught (shown.Object 1)
+        ∷ out (shown.Object 2 ∷ shown.Object 1 ∷ []) ∷ Idle 0 ∷ [] }
     ensures ranks { marks_of (original (tree.block small.passes_objects
         ∷ tree.block (Throw empty ∷ []) ∷ []) page ample)
         ≡ out (shown.Object 1 ∷ shown.Object 2 ∷ shown.Object 1 ∷ [])
@@ -71,6 +74,10 @@ pub fn stopped_runs()
         ≡ (Stopped reason.FunctionText, 10) }
     ensures wrapper { map (λ e. ending_of (run_of (stops e))) small.wrappers
         ≡ replicate 5 (Stopped reason.Wrapper) }
+    ensures script_function_text { ending_of (run_of (stops small.script_function_text))
+        ≡ Stopped reason.FunctionText }
+    ensures applied_primitives { map (λ e. ending_of (run_of (stops e)))
+        small.applied_primitives ≡ replicate 3 (Stopped reason.Wrapper) }
     ensures before_the_beat { report (run_of small.enters_with_text) ≡ record {
       marks = Entry 1 1 ∷ [];
       ending = Stopped reason.Wrapper;

@@ -42,6 +42,9 @@ pub fn visits()
         ≡ texts tree.a ∷ texts tree.x ∷ texts tree.b ∷ [] }
     ensures of_a_text { lines small.visits_a_text ≡ texts tree.x ∷ [] }
     ensures of_null { caught small.visits_null ≡ texts (codes "TypeError") ∷ [] }
+    ensures of_undefined { caught small.visits_undefined ≡ texts (codes "TypeError") ∷ [] }
+    ensures of_primitives { lines small.visits_primitives ≡ texts tree.x ∷ texts tree.b ∷ [] }
+    ensures goes_on { lines small.goes_on_with_visits ≡ texts tree.a ∷ texts tree.b ∷ [] }
     ensures begins { lines small.begins_a_visit
         ≡ texts tree.a ∷ texts tree.b ∷ out (shown.Undefined ∷ []) ∷ [] }
     ensures into_a_property { lines small.visits_into_a_property
