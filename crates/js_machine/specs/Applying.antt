@@ -7,12 +7,11 @@ use Rattle.js_values.specs.Integers.{uint32_of}
 use Rattle.object_heap.specs.declared.object.Class.{Class}
 use Rattle.object_heap.specs.declared.object.Class.TheVariants as class
 use Rattle.object_heap.specs.Names.{length_name, decimal}
-use Rattle.js_machine.specs.Asks.{Program, Ret, Enter, Tick, Stop, KindOf, Kind, NotObject}
-use Rattle.js_machine.specs.Asks.{NotFunction, ScriptFunction, NativeFunction, HostFunction}
+use Rattle.js_machine.specs.Asks.{Program, Ret, Enter, Tick, Stop, KindOf}
 use Rattle.js_machine.specs.Frames.{Asks, ◌>>=◌, ◌>>◌}
 use Rattle.js_machine.specs.References.{get, throws_type_error}
 use Rattle.js_machine.specs.Conversions.{to_number}
-use Rattle.js_machine.specs.Operators.{is_function}
+use Rattle.js_machine.specs.Kinds.{is_function, class_by}
 
 -- `this`, which is to be a function; an undefined or null one is the global object
 abbrev pub this_function : Value → Program → Program
@@ -50,13 +49,6 @@ list_by_class class.Function o k = throws_type_error
 list_by_class class.Error o k = throws_type_error
 list_by_class class.Math o k = throws_type_error
 
-abbrev pub list_by_kind : Kind → ℕ → Asks (List Value)
-list_by_kind NotObject o k = throws_type_error
-list_by_kind (NotFunction class) o k = list_by_class class o k
-list_by_kind ScriptFunction o k = throws_type_error
-list_by_kind (NativeFunction b) o k = throws_type_error
-list_by_kind HostFunction o k = throws_type_error
-
 abbrev pub list_of : Value → Asks (List Value)
 list_of value.Undefined k = k []
 list_of value.Null k = k []
@@ -65,7 +57,7 @@ list_of (value.Num n) k = throws_type_error
 list_of (value.Str text) k = throws_type_error
 list_of (value.Object o) k = do
   kind ← KindOf (value.Object o)
-  list_by_kind kind o.0 k
+  list_by_class (class_by kind) o.0 k
 
 abbrev pub apply_to : Value → List Value → Program
 apply_to f [] = Enter f value.Undefined [] Ret

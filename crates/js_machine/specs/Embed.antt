@@ -4,8 +4,6 @@ use Rattle.js_values.specs.declared.value.Value.{Value}
 use Rattle.js_values.specs.declared.value.Value.TheVariants as value
 use Rattle.object_heap.specs.declared.built_in.BuiltIn.{BuiltIn}
 use Rattle.object_heap.specs.declared.built_in.BuiltIn.TheVariants as built
-use Rattle.object_heap.specs.declared.object.Class.{Class}
-use Rattle.object_heap.specs.declared.object.Class.TheVariants as class
 use Rattle.object_heap.specs.Changes.{new_object}
 use Rattle.js_natives.specs.declared.answer.Answer.{Answer}
 use Rattle.js_natives.specs.declared.answer.Answer.TheVariants as answer
@@ -15,9 +13,8 @@ use Rattle.js_natives.specs.declared.native.Native.{Native}
 use Rattle.js_natives.specs.Natives.{calls_of, program_of}
 use Rattle.js_natives.specs.Program as native
 use Rattle.js_machine.specs.Asks.{Program, Tick, Stop, Listen, Make, KindOf, Own, Behind, Delete}
-use Rattle.js_machine.specs.Asks.{Kind, NotObject, NotFunction, ScriptFunction, NativeFunction}
-use Rattle.js_machine.specs.Asks.{HostFunction}
 use Rattle.js_machine.specs.State.{object_value}
+use Rattle.js_machine.specs.Kinds.{class_by}
 use Rattle.js_machine.specs.Frames.{gives}
 use Rattle.js_machine.specs.References.{get, put, throws, throws_type_error}
 use Rattle.js_machine.specs.Conversions.{to_text, to_number}
@@ -31,14 +28,6 @@ abbrev pub answered : Answer → Program
 answered (answer.Value v) = gives v
 answered (answer.Throw kind) = throws (error_prototype kind)
 answered (answer.Stop reason) = Stop reason
-
--- [[Class]]
-abbrev pub class_by : Kind → Class
-class_by NotObject = class.Plain
-class_by (NotFunction class) = class
-class_by ScriptFunction = class.Function
-class_by (NativeFunction b) = class.Function
-class_by HostFunction = class.Function
 
 abbrev pub embed : native.Program → Program
 embed (native.Done a) = answered a

@@ -192,7 +192,7 @@ lengths =
     ∷ dot (dot (dot (name (codes "Math")) (codes "abs")) (codes "call")) (codes "length")
     ∷ dot (dot (dot (name (codes "Math")) (codes "abs")) (codes "apply")) (codes "length") ∷ []
 
--- `host.out(f.apply(o),f.apply(),f.call(o),f.call());`, where `var o={};function f(){return this===o;}`
+-- `function f(){return this===o;}var o={};` and then `f.apply(o),f.apply(),f.call(o),f.call()`
 abbrev pub tests_this : List Stmt
 tests_this = declare 1 f [] (returns (same tree.This (name o)) ∷ []) ∷ var o empty ∷ []
 
@@ -254,3 +254,9 @@ reverses =
 -- `function f(){$dl_use(1);}f();`
 abbrev pub uses_alone : List Stmt
 uses_alone = declare 1 f [] (tree.Used 1 ∷ []) ∷ calls (name f) [] ∷ []
+
+-- `new RangeError("x")+"",new TypeError()+""`
+abbrev pub error_texts : List Expr
+error_texts =
+    binary op.Add (new (name (codes "RangeError")) (text x ∷ [])) (text [])
+    ∷ binary op.Add (new (name (codes "TypeError")) []) (text []) ∷ []

@@ -1,12 +1,12 @@
 -- A script for each kind of node, each beside its text, by which its steps are counted.
-use Rattle.std.specs.Prelude.{ℕ, true, List, [], ◌∷◌, codes, None, Some}
+use Rattle.std.specs.Prelude.{true, List, [], ◌∷◌, codes, None, Some}
 use Rattle.js_tree.specs.declared.tree.BinaryOp.TheVariants as op
 use Rattle.js_tree.specs.declared.tree.PostfixOp.TheVariants as postfix
 use Rattle.js_tree.specs.declared.tree.PrefixOp.TheVariants as prefix
 use Rattle.js_tree.specs.Tree.{Expr, Stmt, NoExpr, AnExpr, MoreVarItems, NoVarItems, NoStmt, AStmt}
 use Rattle.js_tree.specs.Tree.{NoHandler, ACatch, Target, MoreCases, NoCases, Nothing}
 use Rattle.js_tree.specs.Tree as tree
-use Rattle.js_machine.specs.Writing.{block, name, text, number, call, new, array, object, set, a, b}
+use Rattle.js_machine.specs.Writing.{block, name, text, number, call, new, object, set, a, b}
 use Rattle.js_machine.specs.Writing.{function, blocks, declare, does, e, f, i, x}
 use Rattle.js_machine.specs.Scripts.{counts, dot, at}
 use Rattle.js_machine.specs.ExpressionScripts.{binary, unary, one, two}
@@ -54,8 +54,9 @@ abbrev pub primaries : List Expr
 primaries =
     one ∷ text [] ∷ tree.Truth true ∷ tree.Null ∷ tree.This ∷ name (codes "Math")
     ∷ tree.Array (tree.MoreElements NoExpr (tree.MoreElements (AnExpr one) tree.NoElements))
-    ∷ object ((a, one) ∷ []) ∷ function 1 [] [] ∷ dot (name (codes "Math")) a ∷ at (name (codes "Math")) one
-    ∷ call (dot (name (codes "Math")) (codes "abs")) (one ∷ []) ∷ new (name (codes "Object")) (tree.Null ∷ []) ∷ []
+    ∷ object ((a, one) ∷ []) ∷ function 1 [] [] ∷ dot (name (codes "Math")) a
+    ∷ at (name (codes "Math")) one ∷ call (dot (name (codes "Math")) (codes "abs")) (one ∷ [])
+    ∷ new (name (codes "Object")) (tree.Null ∷ []) ∷ []
 
 -- `x=1` `i++` `--i` `delete x` `void 1` `typeof x` `!1` `1+2` `1&&2` `0&&2` `1||2` `0||2` `1?2:3`
 -- `1,2` `x+=1`, where x is 1 and i is 1

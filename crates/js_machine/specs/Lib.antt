@@ -3,6 +3,7 @@ pub mod State
 pub mod Frames
 pub mod References
 pub mod Conversions
+pub mod Kinds
 pub mod Operators
 pub mod Functions
 pub mod Primary

@@ -15,8 +15,8 @@ use Rattle.js_values.specs.Equality.{equal_of}
 use Rattle.object_heap.specs.Names.{prototype_name}
 use Rattle.js_tree.specs.declared.tree.BinaryOp.{BinaryOp}
 use Rattle.js_tree.specs.declared.tree.BinaryOp.TheVariants as op
-use Rattle.js_machine.specs.Asks.{Has, KindOf, Compare, Behind, Kind, NotObject}
-use Rattle.js_machine.specs.Asks.{NotFunction, ScriptFunction, NativeFunction, HostFunction}
+use Rattle.js_machine.specs.Asks.{Has, KindOf, Compare, Behind}
+use Rattle.js_machine.specs.Kinds.{is_function}
 use Rattle.js_machine.specs.Frames.{Asks, ◌>>=◌}
 use Rattle.js_machine.specs.References.{get, throws_type_error}
 use Rattle.js_machine.specs.Conversions.{or_stop, text_or_stop, HintNumber, to_primitive}
@@ -101,13 +101,6 @@ instance_of (value.Object o) f k = do
 instance_of v f k = k false
 
 -- only functions have [[HasInstance]]
-abbrev pub is_function : Kind → Bool
-is_function NotObject = false
-is_function (NotFunction class) = false
-is_function ScriptFunction = true
-is_function (NativeFunction b) = true
-is_function HostFunction = true
-
 abbrev pub instance_of_value : Value → Value → Asks Bool
 instance_of_value v (value.Object f) k = do
   kind ← KindOf (value.Object f)

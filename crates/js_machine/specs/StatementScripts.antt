@@ -234,7 +234,8 @@ stops_in_a_try =
     tree.Try (blocks (does (binary op.Divide (number 7) two) ∷ []))
     (ACatch e (blocks (says a ∷ []))) (AStmt (blocks (says b ∷ []))) ∷ []
 
--- `Number.prototype.x=1;Boolean.prototype.b=1;for(var k in 1)host.out(k);for(k in true)host.out(k);`
+-- `Number.prototype.x=1;Boolean.prototype.b=1;`
+-- `for(var k in 1)host.out(k);for(var k in true)host.out(k);`
 abbrev pub visits_primitives : List Stmt
 visits_primitives =
     sets (dot (dot (name (codes "Number")) (codes "prototype")) x) one
@@ -254,3 +255,11 @@ reads_of_undefined = does (at (name (codes "undefined")) (spelled k (text x))) �
 
 abbrev pub visits_undefined : List Stmt
 visits_undefined = visits k (name (codes "undefined")) tree.Empty ∷ []
+
+-- `for(var i=0;i<3;i++){switch(i){case 0:break;case 1:continue;}host.out(i);}`
+abbrev pub leaves_a_switch : List Stmt
+leaves_a_switch =
+    counts i 3 (blocks (
+    tree.Switch (name i) (MoreCases (AnExpr (number 0)) (block (tree.Break None ∷ []))
+    (MoreCases (AnExpr one) (block (tree.Continue None ∷ [])) NoCases))
+    ∷ tells (name i) ∷ [])) ∷ []

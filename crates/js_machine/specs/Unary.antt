@@ -19,7 +19,7 @@ use Rattle.js_machine.specs.Frames.{Asks, ◌>>=◌, ◌>>◌, gives, value_of}
 use Rattle.js_machine.specs.References.{Reference, NoReference, InScope, OnBase, Unbound}
 use Rattle.js_machine.specs.References.{get_value, put_value}
 use Rattle.js_machine.specs.Conversions.{or_stop, to_number}
-use Rattle.js_machine.specs.Operators.{is_function}
+use Rattle.js_machine.specs.Kinds.{is_function}
 use Rattle.js_machine.specs.Calls.{reference}
 
 -- ---- 11.3.1, 11.3.2, 11.4.4 and 11.4.5: a target changes by one

@@ -68,6 +68,8 @@ pub fn natives()
         ∷ text (codes "[object Array]") ∷ text (codes "[object Object]") ∷ []) ∷ [] }
     ensures class_of_an_error { lines small.class_of_an_error
         ≡ out (text (codes "[object Error]") ∷ truth true ∷ truth false ∷ []) ∷ [] }
+    ensures error_texts { values small.error_texts
+        ≡ out (text (codes "RangeError: x") ∷ text (codes "TypeError") ∷ []) ∷ [] }
     ensures range_error { caught small.throws_a_range_error ≡ texts (codes "RangeError") ∷ [] }
     ensures steps { end_of small.joins ≡ (Ended, 11) }
     ensures deletes { lines small.reverses ≡ out (truth false ∷ number 1 ∷ []) ∷ [] }

@@ -1,5 +1,5 @@
-//! The steps of each kind of node (ES3 11, 12): these calls do nothing, and each says how many steps
-//! small scripts take. The entry of the script takes the first one.
+//! The steps of each kind of node (ES3 11, 12): these calls do nothing, and each says how many
+//! steps small scripts take. The entry of the script takes the first one.
 
 ghost use Rattle.std.specs.Prelude.{◌≡◌, ◌∷◌, [], map};
 ghost use Rattle.js_machine.specs.KindScripts as kind;

@@ -1,4 +1,8 @@
-//! What programs mean.
+//! What programs mean (ES3 8 to 14), as definitions so far: nothing is run here yet. The meaning of
+//! a node is a program of asks, and a run answers them under a budget of steps. The layer above may
+//! know the asks (`specs/Asks.antt`), the program of each node (`specs/Programs.antt`), the state
+//! (`specs/State.antt`), runs (`specs/Run.antt`), pages, original and written (`specs/Page.antt`),
+//! what is read of a run (`specs/Logs.antt`), and the laws in `laws`; nothing stands on the rows.
 #![tactic(auto)]
 
 mod expression_rows;

@@ -62,6 +62,7 @@ pub fn jumps()
     ensures default_case { lines (small.switches empty) ≡ numbers 0 ∷ [] }
     ensures tests_in_order { lines small.tests_in_order ≡ texts tree.a ∷ texts tree.b ∷ [] }
     ensures no_case { lines small.chooses_none ≡ [] }
+    ensures leaves_a_switch { lines small.leaves_a_switch ≡ numbers 0 ∷ numbers 2 ∷ [] }
     ensures leaves_labels { lines small.leaves_labels ≡ texts tree.a ∷ texts tree.x ∷ [] }
     ensures leaves_the_loop { lines small.leaves_the_loop ≡ [] }
     ensures outside { lines (small.goes_on_outside tree.a) ≡ numbers 0 ∷ numbers 1 ∷ [] }
