@@ -86,10 +86,10 @@ updates = counts i 2 (blocks (when 0 (tree.Continue None) ∷ tells (name i) ∷
 
 -- ---- 12.6.4
 
--- `var o={a:1,b:1};for(var k in o){delete o.b;o.x=1;host.out(k);}`
+-- `var o={a:1,b:1,k:1};for(var k in o){delete o.b;o.x=1;host.out(k);}`
 abbrev pub changes_while_visited : List Stmt
 changes_while_visited =
-    var o (object ((a, one) ∷ (b, one) ∷ []))
+    var o (object ((a, one) ∷ (b, one) ∷ (k, one) ∷ []))
     ∷ visits k (name o) (blocks (does (unary prefix.Delete (dot (name o) b))
     ∷ sets (dot (name o) x) one ∷ tells (name k) ∷ [])) ∷ []
 

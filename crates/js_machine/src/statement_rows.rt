@@ -36,8 +36,8 @@ pub fn loops()
 
 /// The names that a `for-in` visits.
 pub fn visits()
-    ensures changes { lines small.changes_while_visited ≡ texts tree.a ∷ [] }
-    ensures turns_of_changes { beats_of (run_of small.changes_while_visited) ≡ 1 }
+    ensures changes { lines small.changes_while_visited ≡ texts tree.a ∷ texts tree.k ∷ [] }
+    ensures turns_of_changes { beats_of (run_of small.changes_while_visited) ≡ 2 }
     ensures prototypes { lines small.visits_prototypes
         ≡ texts tree.a ∷ texts tree.x ∷ texts tree.b ∷ [] }
     ensures of_a_text { lines small.visits_a_text ≡ texts tree.x ∷ [] }
