@@ -1,5 +1,5 @@
 -- Small scripts of the rows on ES3 10, 13 and 15.3, each beside its text.
-use Rattle.std.specs.Prelude.{List, [], ◌∷◌, codes, Some, true}
+use Rattle.std.specs.Prelude.{List, [], ◌∷◌, codes, Some, true, ◌++◌}
 use Rattle.js_tree.specs.declared.tree.BinaryOp.TheVariants as op
 use Rattle.js_tree.specs.declared.tree.PrefixOp.TheVariants as prefix
 use Rattle.js_tree.specs.declared.tree.Role.TheVariants.{Plain}
@@ -260,3 +260,23 @@ abbrev pub error_texts : List Expr
 error_texts =
     binary op.Add (new (name (codes "RangeError")) (text x ∷ [])) (text [])
     ∷ binary op.Add (new (name (codes "TypeError")) []) (text []) ∷ []
+
+-- `function f(){}host.out(f());`
+abbrev pub returns_nothing : List Stmt
+returns_nothing = declare 1 f [] [] ∷ shows (call (name f) [] ∷ []) ∷ []
+
+-- `f=function(){};f.prototype=1;` and then `1 instanceof f`, `{} instanceof f`
+abbrev pub without_prototype : List Stmt
+without_prototype =
+    sets (name f) (function 1 [] []) ∷ sets (dot (name f) (codes "prototype")) one ∷ []
+
+abbrev pub number_of_it : Expr
+number_of_it = binary op.InstanceOf one (name f)
+
+abbrev pub object_of_it : List Stmt
+object_of_it = without_prototype ++ does (binary op.InstanceOf empty (name f)) ∷ []
+
+-- `{} instanceof Math.abs`
+abbrev pub object_of_a_native : List Stmt
+object_of_a_native =
+    does (binary op.InstanceOf empty (dot (name (codes "Math")) (codes "abs"))) ∷ []

@@ -10,7 +10,7 @@ use Rattle.js_tree.specs.Tree as tree
 use Rattle.js_machine.specs.Page.{Page}
 use Rattle.js_machine.specs.Pages.{listens}
 use Rattle.js_machine.specs.Writing.{name, text, number, call, new}
-use Rattle.js_machine.specs.Writing.{function, shows, calls, var}
+use Rattle.js_machine.specs.Writing.{function, shows, sets, calls, var}
 use Rattle.js_machine.specs.Writing.{does, spelled, a, b, k, o, x}
 use Rattle.js_machine.specs.Scripts.{dot, at}
 use Rattle.js_machine.specs.ExpressionScripts.{binary, unary, one, two, empty}
@@ -170,3 +170,15 @@ applied_primitives =
     (one ∷ [])
     ∷ call (dot (dot (dot (name (codes "Math")) (codes "abs")) (codes "apply")) (codes "call"))
     (text x ∷ []) ∷ []
+
+-- `var o=host.out;host.out=1;o(host.out,delete host.out);`
+-- `o(typeof host.out,delete host.on,delete this.host);`
+abbrev pub changes_host : List Stmt
+changes_host =
+    var o (dot (name (codes "host")) (codes "out"))
+    ∷ sets (dot (name (codes "host")) (codes "out")) one
+    ∷ calls (name o) (dot (name (codes "host")) (codes "out")
+        ∷ unary prefix.Delete (dot (name (codes "host")) (codes "out")) ∷ [])
+    ∷ calls (name o) (unary prefix.TypeOf (dot (name (codes "host")) (codes "out"))
+        ∷ unary prefix.Delete (dot (name (codes "host")) (codes "on"))
+        ∷ unary prefix.Delete (dot tree.This (codes "host")) ∷ []) ∷ []

@@ -57,6 +57,12 @@ pub fn function_objects()
         ≡ (Stopped reason.Wrapper, 6) }
     ensures constructed { values small.constructed
         ≡ out (number 3 ∷ truth true ∷ text tree.x ∷ []) ∷ [] }
+    ensures returns_nothing { lines small.returns_nothing ≡ out (shown.Undefined ∷ []) ∷ [] }
+    ensures number_of_it { behind small.without_prototype (small.number_of_it ∷ [])
+        ≡ out (truth false ∷ []) ∷ [] }
+    ensures object_of_it { caught small.object_of_it ≡ texts (codes "TypeError") ∷ [] }
+    ensures object_of_a_native { caught small.object_of_a_native
+        ≡ texts (codes "TypeError") ∷ [] }
     ensures lengths { values small.lengths
         ≡ out (number 0 ∷ number 2 ∷ number 1 ∷ number 2 ∷ []) ∷ [] }
 {}

@@ -35,6 +35,8 @@ pub fn events()
     ensures no_function { caught small.registers_no_function
         ≡ texts tree.k ∷ texts (codes "TypeError") ∷ [] }
     ensures hidden { lines small.visits_host ≡ texts tree.x ∷ [] }
+    ensures changes_host { lines small.changes_host ≡ out (number 1 ∷ truth true ∷ [])
+        ∷ out (text (codes "undefined") ∷ truth true ∷ truth true ∷ []) ∷ [] }
     ensures steps_run_out { report (original (tree.block pages.goes ∷ []) pages.go_page 12)
         ≡ record {
           marks = Idle 0 ∷ Event 1 ∷ Entry 2 1 ∷ [];
