@@ -8,9 +8,9 @@ use Rattle.js_tree.specs.Tree.{ACatch}
 use Rattle.js_tree.specs.Tree as tree
 use Rattle.js_machine.specs.Writing.{block, name, text, number, call, new, array, object}
 use Rattle.js_machine.specs.Writing.{function, shows, sets, calls, blocks, var, declare, returns}
-use Rattle.js_machine.specs.Writing.{does, a, b, e, f, k, o, x}
+use Rattle.js_machine.specs.Writing.{does, counted, spelled, a, b, e, f, k, o, x}
 use Rattle.js_machine.specs.Scripts.{arguments, dot, at, visits}
-use Rattle.js_machine.specs.ExpressionScripts.{binary, unary, one, two, empty, same}
+use Rattle.js_machine.specs.ExpressionScripts.{binary, unary, one, two, empty, same, minus}
 
 -- `var x;`
 abbrev pub variable : Name → Stmt
@@ -280,3 +280,23 @@ object_of_it = without_prototype ++ does (binary op.InstanceOf empty (name f)) �
 abbrev pub object_of_a_native : List Stmt
 object_of_a_native =
     does (binary op.InstanceOf empty (dot (name (codes "Math")) (codes "abs"))) ∷ []
+
+-- `Array.prototype.isPrototypeOf([]),{}.isPrototypeOf.call([],Array.prototype),`
+-- `{a:1}.hasOwnProperty("a"),{a:1}.propertyIsEnumerable("a"),[1].concat(2).length,`
+-- `[].slice(0) instanceof Array,Math.abs({valueOf:..}),parseInt({toString:..})`, where the methods
+-- show `a` and `b`
+abbrev pub array_prototype : Expr
+array_prototype = dot (name (codes "Array")) (codes "prototype")
+
+abbrev pub asked : List Expr
+asked =
+    call (dot array_prototype (codes "isPrototypeOf")) (array [] ∷ [])
+    ∷ call (dot (dot empty (codes "isPrototypeOf")) (codes "call"))
+    (array [] ∷ array_prototype ∷ [])
+    ∷ call (dot (object ((a, one) ∷ [])) (codes "hasOwnProperty")) (text a ∷ [])
+    ∷ call (dot (object ((a, one) ∷ [])) (codes "propertyIsEnumerable")) (text a ∷ [])
+    ∷ dot (call (dot (array (one ∷ [])) (codes "concat")) (two ∷ [])) (codes "length")
+    ∷ binary op.InstanceOf (call (dot (array []) (codes "slice")) (number 0 ∷ []))
+    (name (codes "Array"))
+    ∷ call (dot (name (codes "Math")) (codes "abs")) (counted a (minus 3) ∷ [])
+    ∷ call (name (codes "parseInt")) (spelled b (text (codes "7")) ∷ []) ∷ []

@@ -178,7 +178,7 @@ changes_host =
     var o (dot (name (codes "host")) (codes "out"))
     ∷ sets (dot (name (codes "host")) (codes "out")) one
     ∷ calls (name o) (dot (name (codes "host")) (codes "out")
-        ∷ unary prefix.Delete (dot (name (codes "host")) (codes "out")) ∷ [])
+    ∷ unary prefix.Delete (dot (name (codes "host")) (codes "out")) ∷ [])
     ∷ calls (name o) (unary prefix.TypeOf (dot (name (codes "host")) (codes "out"))
-        ∷ unary prefix.Delete (dot (name (codes "host")) (codes "on"))
-        ∷ unary prefix.Delete (dot tree.This (codes "host")) ∷ []) ∷ []
+    ∷ unary prefix.Delete (dot (name (codes "host")) (codes "on"))
+    ∷ unary prefix.Delete (dot tree.This (codes "host")) ∷ []) ∷ []

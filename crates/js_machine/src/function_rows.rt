@@ -72,6 +72,9 @@ pub fn natives()
     ensures classes { values small.classes ≡ out (text (codes "[object Function]")
         ∷ text (codes "[object Function]") ∷ text (codes "[object Function]")
         ∷ text (codes "[object Array]") ∷ text (codes "[object Object]") ∷ []) ∷ [] }
+    ensures asked { values small.asked ≡ texts tree.a ∷ texts tree.b ∷ out (truth true
+        ∷ truth false ∷ truth true ∷ truth true ∷ number 2 ∷ truth true ∷ number 3 ∷ number 7
+        ∷ []) ∷ [] }
     ensures class_of_an_error { lines small.class_of_an_error
         ≡ out (text (codes "[object Error]") ∷ truth true ∷ truth false ∷ []) ∷ [] }
     ensures error_texts { values small.error_texts
