@@ -26,19 +26,13 @@ values_from heap scopes o k (suc count) =
 
 -- an array and `arguments` alone can be the list
 abbrev pub list_by : Option Class → Heap → Scopes → ℕ → ℕ → Option (List Value)
-list_by None heap scopes o count = None
 list_by (Some class.Array) heap scopes o count = Some (values_from heap scopes o 0 count)
 list_by (Some class.Arguments) heap scopes o count = Some (values_from heap scopes o 0 count)
-list_by (Some class.Plain) heap scopes o count = None
-list_by (Some class.Function) heap scopes o count = None
-list_by (Some class.Error) heap scopes o count = None
-list_by (Some class.Math) heap scopes o count = None
+list_by class heap scopes o count = None
 
 -- where it is undefined or null there are none
 abbrev pub applied : Heap → Scopes → Value → ℕ → Option (List Value)
 applied heap scopes value.Undefined count = Some []
 applied heap scopes value.Null count = Some []
-applied heap scopes (value.Bool b) count = None
-applied heap scopes (value.Num n) count = None
-applied heap scopes (value.Str s) count = None
 applied heap scopes (value.Object o) count = list_by (class_of heap o.0) heap scopes o.0 count
+applied heap scopes v count = None

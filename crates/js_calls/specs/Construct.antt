@@ -12,12 +12,8 @@ use Rattle.object_heap.specs.Objects.{Slot, Holds, Shares, Heap}
 
 -- steps 3 to 5: the function's `prototype` where that is an object, and otherwise Object.prototype
 abbrev pub prototype_for : Value → ℕ
-prototype_for value.Undefined = number_of built.ObjectPrototype
-prototype_for value.Null = number_of built.ObjectPrototype
-prototype_for (value.Bool b) = number_of built.ObjectPrototype
-prototype_for (value.Num n) = number_of built.ObjectPrototype
-prototype_for (value.Str s) = number_of built.ObjectPrototype
 prototype_for (value.Object o) = o.0
+prototype_for v = number_of built.ObjectPrototype
 
 -- a function has its `prototype` itself, and shares it with no scope
 abbrev pub prototype_in : Option Slot → ℕ
@@ -31,9 +27,5 @@ constructed f heap = made class.Plain (Some (prototype_in (get heap f prototype_
 
 -- steps 7 and 8: what the function gives, where that is an object, and otherwise the new object
 abbrev pub result_of : Value → Value → Value
-result_of new value.Undefined = new
-result_of new value.Null = new
-result_of new (value.Bool b) = new
-result_of new (value.Num n) = new
-result_of new (value.Str s) = new
 result_of new (value.Object o) = value.Object o
+result_of new v = new

@@ -65,7 +65,8 @@ pub fn entries()
 /// The object of `arguments`.
 pub fn argument_objects()
     ensures shared_indices { properties_of
-        (entered_with bare (whole 1 ∷ whole 2 ∷ whole 3 ∷ [])).heap 13 ≡ holding length_name (whole 3) hidden_only ∷ sharing 0 1 0 ∷ sharing 1 1 1
+        (entered_with bare (whole 1 ∷ whole 2 ∷ whole 3 ∷ [])).heap 13
+        ≡ holding length_name (whole 3) hidden_only ∷ sharing 0 1 0 ∷ sharing 1 1 1
         ∷ holding (codes "2") (whole 3) hidden_only ∷ [] }
     ensures fewer { properties_of (entered_with bare (whole 1 ∷ [])).heap 13
         ≡ holding length_name (whole 1) hidden_only ∷ sharing 0 1 0 ∷ [] }

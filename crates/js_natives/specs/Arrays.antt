@@ -71,12 +71,8 @@ array_of_length n =
     else throw RangeError
 
 abbrev pub array_of_one : Value → Asks Answer
-array_of_one value.Undefined = array_of (value.Undefined ∷ [])
-array_of_one value.Null = array_of (value.Null ∷ [])
-array_of_one (value.Bool b) = array_of (value.Bool b ∷ [])
 array_of_one (value.Num n) = array_of_length n
-array_of_one (value.Str s) = array_of (value.Str s ∷ [])
-array_of_one (value.Object o) = array_of (value.Object o ∷ [])
+array_of_one v = array_of (v ∷ [])
 
 abbrev pub array : Value → List Value → Asks Answer
 array this [] = array_of []
@@ -114,21 +110,13 @@ alone v made n = do
 -- step 4
 abbrev pub by_class : Class → Asks ℕ → Asks ℕ → Asks ℕ
 by_class class.Array spreads stands = spreads
-by_class class.Plain spreads stands = stands
-by_class class.Function spreads stands = stands
-by_class class.Arguments spreads stands = stands
-by_class class.Error spreads stands = stands
-by_class class.Math spreads stands = stands
+by_class c spreads stands = stands
 
 abbrev pub item : Value → ℕ → ℕ → Asks ℕ
-item value.Undefined made n = alone value.Undefined made n
-item value.Null made n = alone value.Null made n
-item (value.Bool b) made n = alone (value.Bool b) made n
-item (value.Num a) made n = alone (value.Num a) made n
-item (value.Str s) made n = alone (value.Str s) made n
 item (value.Object o) made n = do
   c ← class_of o.0
   by_class c (spread made n o.0) (alone (value.Object o) made n)
+item v made n = alone v made n
 
 -- steps 4 to 21
 abbrev pub items : List Value → ℕ → ℕ → Asks ℕ
@@ -151,20 +139,13 @@ concat this args = do
 -- steps 3 and 4
 abbrev pub separator : Value → Asks Name
 separator value.Undefined = pure (codes ",")
-separator value.Null = text value.Null
-separator (value.Bool b) = text (value.Bool b)
-separator (value.Num n) = text (value.Num n)
-separator (value.Str s) = text (value.Str s)
-separator (value.Object o) = text (value.Object o)
+separator v = text v
 
 -- steps 7 and 13
 abbrev pub piece : Value → Asks Name
 piece value.Undefined = pure []
 piece value.Null = pure []
-piece (value.Bool b) = text (value.Bool b)
-piece (value.Num n) = text (value.Num n)
-piece (value.Str s) = text (value.Str s)
-piece (value.Object o) = text (value.Object o)
+piece v = text v
 
 -- steps 10 to 16
 abbrev pub pieces : List ℕ → ℕ → Name → Name → Asks Name
@@ -200,12 +181,8 @@ join this args = do
 -- ---- Array.prototype.toString () (15.4.4.2): `join` of an array, without a separator
 
 abbrev pub join_by_class : Class → ℕ → Asks Answer
-join_by_class class.Plain o = throw TypeError
-join_by_class class.Function o = throw TypeError
 join_by_class class.Array o = join_of o value.Undefined
-join_by_class class.Arguments o = throw TypeError
-join_by_class class.Error o = throw TypeError
-join_by_class class.Math o = throw TypeError
+join_by_class c o = throw TypeError
 
 abbrev pub array_to_string : Value → List Value → Asks Answer
 array_to_string this args = do

@@ -13,24 +13,20 @@ use Rattle.js_natives.specs.This.{this_object, this_truth, this_number, this_tex
 
 -- ---- how each is taken
 
--- `this`
+-- `this` is not looked at, is to be an object, a boolean, a number or a text, or is made a text
 pub data This : Type 0 where
-  -- it is not looked at
   Unseen : This
   AnObject : This
   ATruth : This
   ANumber : This
   AText : This
-  -- it is made a text
   MadeText : This
 
--- an argument
+-- an argument stays as it is, or is made a text or a number, the last two where it is not undefined
 pub data Kind : Type 0 where
-  -- as it is
   Kept : Kind
   ToText : Kind
   ToNumber : Kind
-  -- where it is not undefined
   ToTextIfAny : Kind
   ToNumberIfAny : Kind
 
@@ -81,11 +77,7 @@ made_number_of v = do
 -- a value that is undefined stays so
 abbrev pub if_any : (Value → Asks Value) → Value → Asks Value
 if_any convert value.Undefined = pure value.Undefined
-if_any convert value.Null = convert value.Null
-if_any convert (value.Bool b) = convert (value.Bool b)
-if_any convert (value.Num n) = convert (value.Num n)
-if_any convert (value.Str s) = convert (value.Str s)
-if_any convert (value.Object o) = convert (value.Object o)
+if_any convert v = convert v
 
 abbrev pub argument_converted : Kind → Value → Asks Value
 argument_converted Kept v = pure v
@@ -105,7 +97,7 @@ arguments_converted (kind ∷ kinds) others (v ∷ vs) = do
   us ← arguments_converted kinds others vs
   pure (u ∷ us)
 
--- a native that goes on so once all are converted
+-- a native whose row comes once all are converted
 abbrev pub converting
     : {A : Type 0} → Takes → Value → List Value → (Value → List Value → Asks A) → Asks A
 converting takes this args row = do
@@ -124,24 +116,16 @@ argument args i = unwrap_or (slice_get args i) value.Undefined
 
 -- the text that an argument was made, which for a missing argument is that of undefined
 abbrev pub text_in : Value → Name
-text_in value.Undefined = codes "undefined"
-text_in value.Null = codes "undefined"
-text_in (value.Bool b) = codes "undefined"
-text_in (value.Num n) = codes "undefined"
 text_in (value.Str s) = s
-text_in (value.Object o) = codes "undefined"
+text_in v = codes "undefined"
 
 abbrev pub text_at : List Value → ℕ → Name
 text_at args i = text_in (argument args i)
 
 -- the number that one was made, which for a missing argument is that of undefined
 abbrev pub number_in : Value → Num
-number_in value.Undefined = NaN
-number_in value.Null = NaN
-number_in (value.Bool b) = NaN
 number_in (value.Num n) = n
-number_in (value.Str s) = NaN
-number_in (value.Object o) = NaN
+number_in v = NaN
 
 abbrev pub number_at : List Value → ℕ → Num
 number_at args i = number_in (argument args i)

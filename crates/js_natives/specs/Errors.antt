@@ -19,14 +19,11 @@ message_name = codes "message"
 -- ---- Error (message) and new Error (message) (15.11.1.1, 15.11.2.1), and those of the three kinds
 -- (15.11.7.2, 15.11.7.4)
 
--- a message that is not undefined is the object's own, and has no attributes
+-- a message that is not undefined has been made a text: it is the object's own, and has no
+-- attributes
 abbrev pub with_message : Value → ℕ → Program → Program
-with_message value.Undefined made p = p
-with_message value.Null made p = p
-with_message (value.Bool b) made p = p
-with_message (value.Num n) made p = p
 with_message (value.Str s) made p = write made message_name (value.Str s) p
-with_message (value.Object o) made p = p
+with_message v made p = p
 
 abbrev pub error : BuiltIn → Value → List Value → Asks Answer
 error prototype this args = do

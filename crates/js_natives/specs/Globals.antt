@@ -23,7 +23,7 @@ use Rattle.js_natives.specs.Convert.{argument, text_at, number_at}
 
 -- ---- parseInt (string, radix) (15.1.2.2)
 
--- the digits at the front: step 14
+-- step 14: the digits at the front
 abbrev pub digits_in : ℕ → Name → Name
 digits_in radix s = take_while (λ c. nat_lt (digit_value c) radix) s
 
@@ -41,17 +41,21 @@ number_of_digits negative radix [] = number_answer NaN
 number_of_digits negative radix (c ∷ cs) =
     number_or_stop (whole_or_stop (signed_value negative (digits_value radix (c ∷ cs))))
 
--- whether `0x` or `0X` stands at the front: step 13
+-- steps 14 to 18
+abbrev pub digits_number : Bool → ℕ → Name → Asks Answer
+digits_number negative radix s = number_of_digits negative radix (digits_in radix s)
+
+-- step 13: whether `0x` or `0X` stands at the front
 abbrev pub has_prefix : Name → Bool
 has_prefix [] = false
 has_prefix (c ∷ []) = false
 has_prefix (c ∷ (x ∷ cs)) = (c == 48) && ((x == 120) || (x == 88))
 
--- steps 13 and 14, in sixteen behind that prefix and in the radix without it
+-- steps 13 to 18: in sixteen behind that prefix, and in the radix without it
 abbrev pub perhaps_hexadecimal : Bool → ℕ → Name → Asks Answer
 perhaps_hexadecimal negative radix s =
-    if has_prefix s then number_of_digits negative 16 (digits_in 16 (behind_prefix s))
-    else number_of_digits negative radix (digits_in radix s)
+    if has_prefix s then digits_number negative 16 (behind_prefix s)
+    else digits_number negative radix s
 
 -- steps 7 to 12: a radix of 0 is ten, and the prefix may stand there and in sixteen alone; `0` in
 -- front has no meaning
@@ -60,8 +64,7 @@ by_radix negative (negsuc radix) s = number_answer NaN
 by_radix negative (pos radix) s =
     if radix == 0 then perhaps_hexadecimal negative 10 s
     else if radix == 16 then perhaps_hexadecimal negative 16 s
-    else if nat_le 2 radix && nat_le radix 36 then
-    number_of_digits negative radix (digits_in radix s)
+    else if nat_le 2 radix && nat_le radix 36 then digits_number negative radix s
     else number_answer NaN
 
 -- steps 2 to 6
@@ -83,24 +86,16 @@ is_nan this args = truth_answer (is_not_a_number (number_at args 0))
 -- ---- host.on (type, f): the type has been made a text
 
 abbrev pub listening : Class → Name → ℕ → Asks Answer
-listening class.Plain event o = throw TypeError
 listening class.Function event o = do
   listen event o
   undefined_answer
-listening class.Array event o = throw TypeError
-listening class.Arguments event o = throw TypeError
-listening class.Error event o = throw TypeError
-listening class.Math event o = throw TypeError
+listening c event o = throw TypeError
 
 abbrev pub listening_by : Value → Name → Asks Answer
-listening_by value.Undefined event = throw TypeError
-listening_by value.Null event = throw TypeError
-listening_by (value.Bool b) event = throw TypeError
-listening_by (value.Num n) event = throw TypeError
-listening_by (value.Str s) event = throw TypeError
 listening_by (value.Object o) event = do
   c ← class_of o.0
   listening c event o.0
+listening_by v event = throw TypeError
 
 abbrev pub on : Value → List Value → Asks Answer
 on this args = listening_by (argument args 1) (text_at args 0)

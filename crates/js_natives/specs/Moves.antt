@@ -94,11 +94,7 @@ converted_end v length = do
 -- steps 7 and 8: an end that is undefined is the length
 abbrev pub end_of : Value → ℕ → Asks ℕ
 end_of value.Undefined length = pure length
-end_of value.Null length = converted_end value.Null length
-end_of (value.Bool b) length = converted_end (value.Bool b) length
-end_of (value.Num n) length = converted_end (value.Num n) length
-end_of (value.Str s) length = converted_end (value.Str s) length
-end_of (value.Object o) length = converted_end (value.Object o) length
+end_of v length = converted_end v length
 
 -- steps 10 to 18: for each index k the element at k + start is copied to k of the new array
 abbrev pub copies : List ℕ → ℕ → ℕ → ℕ → Program → Program

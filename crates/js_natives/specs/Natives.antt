@@ -24,7 +24,7 @@ use Rattle.js_natives.specs.Globals as globals
 
 pub data Plan : Type 0 where
   -- `this` and the arguments are converted, and then comes a row, which asks the heap alone (that of
-  -- `on` listens)
+  -- `on` listens). It looks at `this` again, so that it stands by itself.
   Converts : (takes : Takes) → (row : Value → List Value → Asks Answer) → Plan
   -- it converts what it needs as it goes
   Goes : (program : Value → List Value → Asks Answer) → Plan

@@ -26,14 +26,10 @@ text_in_radix (pos radix) n =
     else throw RangeError
 text_in_radix (negsuc radix) n = throw RangeError
 
--- in ten where the radix is undefined
+-- in ten where the radix is undefined; any other has been made a number
 abbrev pub radix_of : Value → ℤ
-radix_of value.Undefined = pos 10
-radix_of value.Null = pos 10
-radix_of (value.Bool b) = pos 10
 radix_of (value.Num n) = integer_of n
-radix_of (value.Str s) = pos 10
-radix_of (value.Object o) = pos 10
+radix_of v = pos 10
 
 abbrev pub number_to_string : Value → List Value → Asks Answer
 number_to_string this args = do

@@ -75,14 +75,10 @@ has_own_property this args = do
 -- ---- Object.prototype.isPrototypeOf (V) (15.2.4.6)
 
 abbrev pub is_prototype_of_value : ℕ → Value → Asks Answer
-is_prototype_of_value o value.Undefined = truth_answer false
-is_prototype_of_value o value.Null = truth_answer false
-is_prototype_of_value o (value.Bool b) = truth_answer false
-is_prototype_of_value o (value.Num n) = truth_answer false
-is_prototype_of_value o (value.Str s) = truth_answer false
 is_prototype_of_value o (value.Object v) = do
   b ← behind v.0 o
   truth_answer b
+is_prototype_of_value o v = truth_answer false
 
 abbrev pub is_prototype_of : Value → List Value → Asks Answer
 is_prototype_of this args = do
@@ -106,12 +102,8 @@ property_is_enumerable this args = do
 
 -- the text of a function is not told
 abbrev pub text_of_class : Class → Asks Answer
-text_of_class class.Plain = throw TypeError
 text_of_class class.Function = stop reason.FunctionText
-text_of_class class.Array = throw TypeError
-text_of_class class.Arguments = throw TypeError
-text_of_class class.Error = throw TypeError
-text_of_class class.Math = throw TypeError
+text_of_class c = throw TypeError
 
 abbrev pub function_to_string : Value → List Value → Asks Answer
 function_to_string this args = do

@@ -26,7 +26,8 @@ abbrev pub string : Value → List Value → Asks Answer
 string this [] = text_answer []
 string this (v ∷ vs) = text_answer (text_in v)
 
--- a text would be put into an object
+-- a primitive would be put into an object; so it is with new Number and new Boolean (15.7.2.1,
+-- 15.6.2.1)
 abbrev pub new_wrapper : Value → List Value → Asks Answer
 new_wrapper this args = stop Wrapper
 
@@ -74,7 +75,7 @@ string_concat this args = do
 
 -- ---- String.prototype.indexOf (searchString, position) (15.5.4.7)
 
--- step 7, where k is the position of the text that is left
+-- step 7: the first place of a text in what is left of another from position k on
 abbrev pub first_place : ℕ → Name → Name → Option ℕ
 first_place k sought [] = if starts_with nat_eq [] sought then Some k else None
 first_place k sought (u ∷ us) =
@@ -105,7 +106,7 @@ abbrev pub later : Option ℕ → Option ℕ → Option ℕ
 later None earlier = earlier
 later (Some k) earlier = Some k
 
--- step 8, where k is the position of the text that is left, and the place is not behind `last`
+-- step 8: the last place that is not behind `last` in what is left from position k on
 abbrev pub last_place : ℕ → ℕ → Name → Name → Option ℕ
 last_place k last sought [] =
     if nat_le k last && starts_with nat_eq [] sought then Some k else None
@@ -124,14 +125,10 @@ last_index_of this args =
 abbrev pub between : ℕ → ℕ → Name → Name
 between start end s = take (end - start) (drop start s)
 
--- step 4: an end that is undefined is that of the text
+-- step 4: an end that is undefined is that of the text; any other has been made a number
 abbrev pub end_at : (ℤ → ℕ → ℕ) → Value → ℕ → ℕ
-end_at counted value.Undefined length = length
-end_at counted value.Null length = length
-end_at counted (value.Bool b) length = length
 end_at counted (value.Num n) length = counted (integer_of n) length
-end_at counted (value.Str s) length = length
-end_at counted (value.Object o) length = length
+end_at counted v length = length
 
 -- steps 5 to 8
 abbrev pub sliced_text : Name → ℤ → Value → Name
@@ -164,23 +161,15 @@ abbrev pub pieces_of : Name → Name → List Name
 pieces_of s [] = singles s
 pieces_of s (u ∷ us) = cut_pieces (u ∷ us) 0 [] s
 
--- step 8: all in one piece where the separator is undefined
+-- step 8: all in one piece where the separator is undefined; any other has been made a text
 abbrev pub split_text : Name → Value → List Name
-split_text s value.Undefined = s ∷ []
-split_text s value.Null = s ∷ []
-split_text s (value.Bool b) = s ∷ []
-split_text s (value.Num n) = s ∷ []
 split_text s (value.Str between) = pieces_of s between
-split_text s (value.Object o) = s ∷ []
+split_text s v = s ∷ []
 
--- step 3
+-- step 3, where the limit has been converted unless it is undefined
 abbrev pub limit_of : Value → ℕ
-limit_of value.Undefined = 2 ^ 32 - 1
-limit_of value.Null = 2 ^ 32 - 1
-limit_of (value.Bool b) = 2 ^ 32 - 1
 limit_of (value.Num n) = uint32_of n
-limit_of (value.Str s) = 2 ^ 32 - 1
-limit_of (value.Object o) = 2 ^ 32 - 1
+limit_of v = 2 ^ 32 - 1
 
 -- steps 2, 7, 17, 18 and 29: an array of the first of them
 abbrev pub array_of_texts : List Name → Asks Answer

@@ -24,7 +24,7 @@ this_object (value.Num n) = stop Wrapper
 this_object (value.Str s) = stop Wrapper
 this_object (value.Object o) = pure o.0
 
--- the boolean that it is, in Boolean.prototype (15.6.4.2, 15.6.4.3)
+-- the boolean that it is, in Boolean.prototype (15.6.4.2, 15.6.4.3); the global object is none
 abbrev pub this_truth : Value → Asks Bool
 this_truth value.Undefined = throw TypeError
 this_truth value.Null = throw TypeError
@@ -44,18 +44,11 @@ this_number (value.Object o) = throw TypeError
 
 -- the text that it is, in `toString` and `valueOf` of String.prototype (15.5.4.2, 15.5.4.3)
 abbrev pub this_text : Value → Asks Name
-this_text value.Undefined = throw TypeError
-this_text value.Null = throw TypeError
-this_text (value.Bool b) = throw TypeError
-this_text (value.Num n) = throw TypeError
 this_text (value.Str s) = pure s
-this_text (value.Object o) = throw TypeError
+this_text v = throw TypeError
 
 -- what is made a text, in the other natives of String.prototype
 abbrev pub this_value : Value → Value
 this_value value.Undefined = the_object global
 this_value value.Null = the_object global
-this_value (value.Bool b) = value.Bool b
-this_value (value.Num n) = value.Num n
-this_value (value.Str s) = value.Str s
-this_value (value.Object o) = value.Object o
+this_value v = v

@@ -88,6 +88,12 @@ pub fn joined_elements()
     ensures of_no_array { answered native.Join (o 13) [] (one_object class.Plain
         (holding length_name (value.Str (codes "2")) no_attributes
         ∷ holding (codes "1") (whole 5) no_attributes ∷ [])) ≡ gives_text (codes ",5") }
+    ensures length_of_32_bits { answered native.Join (o 13) [] (one_object class.Plain
+        (holding length_name (whole 4294967297) no_attributes
+        ∷ holding (codes "0") (whole 5) no_attributes ∷ [])) ≡ gives_text (codes "5") }
+    ensures length_stops { answered native.Join (o 13) [] (one_object class.Plain
+        (holding length_name (value.Str (codes "1.5")) no_attributes ∷ []))
+        ≡ answer.Stop reason.NumberText }
     ensures of_primitives { answers_to native.Join primitives
         ≡ replicate 3 (answer.Stop reason.Wrapper) }
     ensures of_the_global_object { answers_to native.Join (value.Null ∷ []) ≡ gives_text [] ∷ [] }

@@ -1,4 +1,10 @@
-//! The natives (ES3 15), each as a program of asks, as definitions so far: nothing is run here yet.
+//! The natives, which are the functions of the library (ES3 15), each as a program of asks, as
+//! definitions so far: nothing is run here yet. The layer above may know the programs of
+//! `specs/Program.antt`, the table of `specs/Natives.antt`, which gives the program of each native
+//! and the native of each function of the start, and the laws in `laws`; nothing stands on the
+//! rows. What a native asks for is answered there: steps, conversions, which may call functions,
+//! reads and writes of properties, and listeners. `call` and `apply` enter a function, so they have
+//! no program here.
 #![tactic(auto)]
 
 mod answer;

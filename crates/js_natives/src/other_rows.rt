@@ -24,8 +24,10 @@ pub fn new_errors()
     ensures prototypes { map (λ n. prototype_of (left n value.Undefined [] few) 13) (native.Error
         ∷ native.TypeError ∷ native.ReferenceError ∷ native.RangeError ∷ [])
         ≡ Some 6 ∷ Some 7 ∷ Some 8 ∷ Some 9 ∷ [] }
-    ensures without_message { map (λ args. properties_of
-        (left native.Error value.Undefined args few) 13) ([] ∷ (value.Undefined ∷ []) ∷ []) ≡ replicate 2 [] }
+    ensures without_message { map (λ n. map (λ args. properties_of
+        (left n value.Undefined args few) 13) ([] ∷ (value.Undefined ∷ []) ∷ []))
+        (native.Error ∷ native.TypeError ∷ native.ReferenceError ∷ native.RangeError ∷ [])
+        ≡ replicate 4 (replicate 2 []) }
     ensures with_message { properties_of (left native.TypeError value.Undefined (whole 5 ∷ []) few)
         13 ≡ holding (codes "message") (value.Str (codes "5")) no_attributes ∷ [] }
     ensures with_empty_message { properties_of (left native.Error value.Undefined

@@ -10,6 +10,7 @@ ghost use Rattle.object_heap.specs.Objects.{class_of, prototype_of};
 ghost use Rattle.js_natives.specs.declared.answer.Answer.TheVariants as answer;
 ghost use Rattle.js_natives.specs.declared.answer.ErrorKind.TheVariants as kind;
 ghost use Rattle.js_natives.specs.declared.native.Native.TheVariants as native;
+ghost use Rattle.js_natives.specs.Strings.{limit_of};
 ghost use Rattle.js_natives.specs.Rows.{ANumber, AText, answered, answers_to, asks, few, gives};
 ghost use Rattle.js_natives.specs.Rows.{gives_text, left, minus, nan, o, of_text, primitives, split_of};
 ghost use Rattle.js_natives.specs.Rows.{texts};
@@ -180,6 +181,7 @@ pub fn split_texts()
     ensures not_limited { map (λ v. split_of (codes "a,b") (value.Str (codes ",") ∷ v ∷ []))
         (value.Undefined ∷ whole 9 ∷ minus 1 ∷ [])
         ≡ replicate 3 (texts (codes "a" ∷ codes "b" ∷ [])) }
+    ensures greatest_limit { limit_of value.Undefined ≡ 4294967295 }
     ensures an_array { class_of (left native.Split (value.Str []) [] few) 13 ≡ Some class.Array }
     ensures of_arrays { prototype_of (left native.Split (value.Str []) [] few) 13 ≡ Some 2 }
     ensures answered { answered native.Split (value.Str []) [] few ≡ gives (o 13) }
