@@ -1,0 +1,5 @@
+pub mod Rising
+pub mod Growing
+pub mod Joining
+pub mod Pages
+pub mod Lists
