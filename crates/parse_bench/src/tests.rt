@@ -632,6 +632,20 @@ fn nested(alloc: Global, nest: &Nest, times: u32) -> Result<String, AllocError> 
     Ok(text)
 }
 
+/// Tries a text in which a piece stands so many times.
+fn assert_told(
+    rt: &impl Abort,
+    alloc: Global,
+    form: Form,
+    text: &str,
+    expected: &str,
+    (times, piece): (u32, &str),
+) -> Result<(), Fail> {
+    let answer = told(rt, alloc, form, text)?;
+    assert_eq!(rt; answer.as_str(), expected, "{times} of {piece:?}");
+    Ok(())
+}
+
 /// Tries a text that nests as often as its form allows, and once more.
 fn meet_and_pass(
     rt: &impl Abort,
@@ -640,18 +654,25 @@ fn meet_and_pass(
     nest: &Nest,
     most: u32,
 ) -> Result<(), Fail> {
-    let piece = nest.piece;
     let text = nested(alloc, nest, most)?;
-    let met = told(rt, alloc, form, text.as_str())?;
-    assert_eq!(rt; met.as_str(), "accepted", "{most} of {piece:?}");
-    let text = nested(alloc, nest, most.saturating_add(1))?;
-    let passed = told(rt, alloc, form, text.as_str())?;
-    assert_eq!(rt;
-        passed.as_str(),
+    assert_told(
+        rt,
+        alloc,
+        form,
+        text.as_str(),
+        "accepted",
+        (most, nest.piece),
+    )?;
+    let more = most.saturating_add(1);
+    let text = nested(alloc, nest, more)?;
+    assert_told(
+        rt,
+        alloc,
+        form,
+        text.as_str(),
         "TooDeep 1:1",
-        "one more than {most} of {piece:?}"
-    );
-    Ok(())
+        (more, nest.piece),
+    )
 }
 
 #[test]
