@@ -14,12 +14,10 @@ trap 'rm -rf "$data"' EXIT
 (cd crates/parse_bench && rt run >"$data/build.log" 2>&1) || { cat "$data/build.log"; exit 1; }
 program=$PWD/crates/parse_bench/out/parse_bench
 
-# Runs the program on a file, and leaves the seconds of each part in $lexing, $parsing and $dropping, 0 where there was
-# none, and the answer in $answer.
+# Runs the program on a file for 60 seconds at most, and leaves the seconds of each part in $lexing, $parsing and
+# $dropping, 0 where there was none, and the answer in $answer.
 run_on() {
-    if ! "$program" <"$1" >"$data/out" 2>"$data/err"; then
-        echo "died:" >>"$data/out"
-    fi
+    timeout 60 "$program" <"$1" >"$data/out" 2>"$data/err" || echo "no answer: status $?" >"$data/out"
     lexing=$(awk '$1 == "lexing" { t = $2 } END { print t + 0 }' "$data/err")
     parsing=$(awk '$1 == "parsing" { t = $2 } END { print t + 0 }' "$data/err")
     dropping=$(awk '$1 == "dropping" { t = $2 } END { print t + 0 }' "$data/err")
@@ -51,6 +49,11 @@ texts.append(('a1:;a2:; ..', ''.join(f'a{k}:;' for k in range(N))))
 texts.append(('x="aaa ..";', 'x="' + 'a' * N + '";'))
 texts.append(('aaa ..', 'a' * N))
 texts.append(('function f(a1, .. a1000){} ..', ('function f(' + ','.join(f'a{k}' for k in range(1000)) + '){}\n') * 200))
+# trees that are as deep as they may be, and wide
+texts.append(('[a,a, ..].a.a ..', '[' + 'a,' * N + ']' + '.a' * 390))
+texts.append(('a+a+a ..;', ('a' + '+a' * 390 + ';') * (N // 400)))
+texts.append(('((((a))));', ('(' * 390 + 'a' + ')' * 390 + ';') * (N // 400)))
+texts.append(('a1:a2: .. {b:;b:; ..}', ''.join(f'a{k}:' for k in range(390)) + '{' + 'b:;' * N + '}'))
 with open(sys.argv[1] + '/names', 'w') as names:
     for k, (name, text) in enumerate(texts):
         names.write(name.replace('\n', ' LF') + '\n')

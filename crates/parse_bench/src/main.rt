@@ -4,7 +4,11 @@
 //! text and no faster.
 #![tactic(auto)]
 
+#[cfg(test)]
+mod answers;
 mod faults;
+#[cfg(test)]
+mod limit_tests;
 #[cfg(test)]
 mod printed_tests;
 #[cfg(test)]
