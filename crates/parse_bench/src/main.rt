@@ -4,17 +4,7 @@
 //! text and no faster.
 #![tactic(auto)]
 
-#[cfg(test)]
-mod answers;
 mod faults;
-#[cfg(test)]
-mod limit_tests;
-#[cfg(test)]
-mod printed_tests;
-#[cfg(test)]
-mod shown;
-#[cfg(test)]
-mod tests;
 
 ghost use Rattle.std.specs.Prelude.{◌<◌, ◌-◌, ◌^◌, length};
 
