@@ -105,33 +105,33 @@ pub fn assignments()
         (codes "a <<= b ; a >>= b ; a >>>= b ; a &= b ; a ^= b ; a |= b")
         (codes "a<<=b;a>>=b;a>>>=b;a&=b;a^=b;a|=b;\n") }
     ensures to_the_right { row.Same Source (codes "a = b += c") (codes "a = ( b += c )") }
-    ensures above_conditional { row.Same Source (codes "a = b? c : d")
-        (codes "a = ( b? c : d )") }
-    ensures in_conditional { row.Same Source (codes "a? b = c : d = e")
-        (codes "a? ( b = c ) : ( d = e )") }
-    ensures conditionals { row.Same Source (codes "a? b : c? d : e")
-        (codes "a? b : ( c? d : e )") }
-    ensures above_or { row.Same Source (codes "a || b? c || d : e || f")
-        (codes "( a || b )? ( c || d ) : ( e || f )") }
+    ensures above_conditional { row.Same Source (codes "a = b ? c : d")
+        (codes "a = ( b ? c : d )") }
+    ensures in_conditional { row.Same Source (codes "a ? b = c : d = e")
+        (codes "a ? ( b = c ) : ( d = e )") }
+    ensures conditionals { row.Same Source (codes "a ? b : c ? d : e")
+        (codes "a ? b : ( c ? d : e )") }
+    ensures above_or { row.Same Source (codes "a || b ? c || d : e || f")
+        (codes "( a || b ) ? ( c || d ) : ( e || f )") }
     ensures commas { row.Same Source (codes "a , b , c") (codes "( a , b ) , c") }
-    ensures above_comma { row.Same Source (codes "a = b , c = d? e : f , g")
-        (codes "( ( a = b ) , ( c = ( d? e : f ) ) ) , g") }
+    ensures above_comma { row.Same Source (codes "a = b , c = d ? e : f , g")
+        (codes "( ( a = b ) , ( c = ( d ? e : f ) ) ) , g") }
     ensures targets { row.Reads Source
         (codes "( a ) = b ; a . b = c ; ( ( a [ b ] ) ) = c ; a ( ) . b = c")
         (codes "a=b;a.b=c;a[b]=c;a().b=c;\n") }
     ensures no_number { row.BreaksAt Source (codes "1") (codes "=") }
     ensures no_call { row.BreaksAt Source (codes "a ( )") (codes "=") }
     ensures no_sum { row.BreaksAt Source (codes "a + b") (codes "=") }
-    ensures no_conditional { row.BreaksAt Source (codes "a? b : c + d") (codes "=") }
+    ensures no_conditional { row.BreaksAt Source (codes "a ? b : c + d") (codes "=") }
     ensures no_negation { row.BreaksAt Source (codes "! a") (codes "=") }
     ensures no_parenthesised_sum { row.BreaksAt Source (codes "( a + b )") (codes "+=") }
     ensures no_new { row.BreaksAt Source (codes "new a ( )") (codes "=") }
     ensures no_postfix { row.BreaksAt Source (codes "a ++") (codes "=") }
     ensures no_assignment { row.BreaksAt Source (codes "( a = b )") (codes "=") }
     ensures no_this { row.BreaksAt Source (codes "this") (codes "=") }
-    ensures middle_without_comma { row.BreaksAt Source (codes "a? b") (codes ",") }
-    ensures middle_without_end { row.BreaksAt Source (codes "a? b") (codes ";") }
-    ensures other_is_needed { row.BreaksAt Source (codes "a? b :") (codes ";") }
+    ensures middle_without_comma { row.BreaksAt Source (codes "a ? b") (codes ",") }
+    ensures middle_without_end { row.BreaksAt Source (codes "a ? b") (codes ";") }
+    ensures other_is_needed { row.BreaksAt Source (codes "a ? b :") (codes ";") }
 {}
 
 /// Operators before and behind one operand (ES3 11.3, 11.4).
@@ -168,8 +168,8 @@ pub fn calls()
     ensures new_twice { row.Same Source
         (codes "new new a ; new new a ( b ) ; new new a ( b ) ( c )")
         (codes "new ( new a ) ; new ( new a ( b ) ) ; new ( new a ( b ) ) ( c )") }
-    ensures new_in_operations { row.Same Source (codes "- new a + b ; new a? b : c")
-        (codes "( - ( new a ) ) + b ; ( new a )? b : c") }
+    ensures new_in_operations { row.Same Source (codes "- new a + b ; new a ? b : c")
+        (codes "( - ( new a ) ) + b ; ( new a ) ? b : c") }
     ensures argument_list_ends { row.BreaksAt Source (codes "a ( b ,") (codes ")") }
     ensures argument_is_needed { row.BreaksAt Source (codes "a (") (codes ",") }
     ensures number_is_no_member { row.BreaksAt Source (codes "a .") (codes "1") }
@@ -208,7 +208,7 @@ pub fn headers()
     ensures in_parentheses { row.Reads Source
         (codes "for ( ( 1 in x ) ; ; ) ; for ( ( ( 1 in x ) , 2 ) ; ; ) ;")
         (codes "for((1 in x);;);for((1 in x),2;;);\n") }
-    ensures in_the_middle { row.Reads Source (codes "for ( a? 1 in x : b ; ; ) ;")
+    ensures in_the_middle { row.Reads Source (codes "for ( a ? 1 in x : b ; ; ) ;")
         (codes "for(a?(1 in x):b;;);\n") }
     ensures in_a_function { row.Reads Source (codes "for ( a = function ( ) { 1 in x ; } ; ; ) ;")
         (codes "for(a=function(){1 in x;};;);\n") }
@@ -220,7 +220,7 @@ pub fn headers()
     ensures in_second_item { row.BreaksAt Source (codes "for ( var i = 1 , j = 2") (codes "in") }
     ensures in_second_name { row.BreaksAt Source (codes "for ( var i , j") (codes "in") }
     ensures in_disjunction { row.BreaksAt Source (codes "for ( a || 1") (codes "in") }
-    ensures in_other { row.BreaksAt Source (codes "for ( a? b : 1") (codes "in") }
+    ensures in_other { row.BreaksAt Source (codes "for ( a ? b : 1") (codes "in") }
     ensures in_negation { row.BreaksAt Source (codes "for ( ! a") (codes "in") }
     ensures in_comma { row.BreaksAt Source (codes "for ( a , b") (codes "in") }
     ensures in_call { row.BreaksAt Source (codes "for ( a ( )") (codes "in") }

@@ -8,7 +8,7 @@ ghost use Rattle.grammar_rows.specs.TextRows as row;
 /// Where operands are in parentheses.
 pub fn parentheses()
     ensures below_a_level { row.Reads Source
-        (codes "( a = b ) + c ; ( a , b ) + c ; ( a? b : c ) + d ; a + ( b = c )")
+        (codes "( a = b ) + c ; ( a , b ) + c ; ( a ? b : c ) + d ; a + ( b = c )")
         (codes "(a=b)+c;(a,b)+c;(a?b:c)+d;a+(b=c);\n") }
     ensures at_a_level { row.Reads Source
         (codes "( a + b ) + c ; a + ( b + c ) ; ( a * b ) + c ; a * ( b + c ) ; ( a + b ) * c")
@@ -26,8 +26,8 @@ pub fn parentheses()
         ++ codes ") ; var a = ( b , c ) , d = ( e , f )")
         (codes "a(b,(c,d));[a,(b,c)];({a:b,c:(d,e)});var a=(b,c),d=(e,f);\n") }
     ensures conditionals { row.Reads Source
-        (codes "( a? b : c )? d : e ; ( a = b )? c : d ; a? ( b , c ) : ( d , e ) "
-        ++ codes "; a? ( b = c ) : ( d = e ) ; ( a || b )? c : d")
+        (codes "( a ? b : c ) ? d : e ; ( a = b ) ? c : d ; a ? ( b , c ) : ( d , e ) "
+        ++ codes "; a ? ( b = c ) : ( d = e ) ; ( a || b ) ? c : d")
         (codes "(a?b:c)?d:e;(a=b)?c:d;a?(b,c):(d,e);a?b=c:d=e;a||b?c:d;\n") }
     ensures prefixes { row.Reads Source
         (codes "! ( a + b ) ; ! ( a ++ ) ; ( ! a ) + b ; - ( - a ) ; ! ( a = b ) ; ++ ( a . b )")
@@ -68,12 +68,12 @@ pub fn parentheses()
         ++ codes "; ; ) ; for ( ( { a : 1 in x } ) ; ; ) ;")
         (codes "for([1 in x];;);for(a[1 in x];;);for(a(1 in x);;);for({a:1 in x};;);\n") }
     ensures header_parentheses { row.Reads Source
-        (codes "for ( ( ( 1 in x ) , 2 ) * 3 ; ; ) ; for ( a? 1 in x : ( 2 in y ) ; ; "
+        (codes "for ( ( ( 1 in x ) , 2 ) * 3 ; ; ) ; for ( a ? 1 in x : ( 2 in y ) ; ; "
         ++ codes ") ; for ( var a = ( 1 in x ) in b ) ;")
         (codes "for((1 in x,2)*3;;);for(a?(1 in x):(2 in y);;);for(var a=(1 in x)in b);\n") }
     ensures header_operands { row.Reads Source
         (codes "for ( ( 1 in x ) + 2 ; ; ) ; for ( ! ( 1 in x ) ; ; ) ; for ( a = ( 1 "
-        ++ codes "in x ) ; ; ) ; for ( ( 1 in x )? a : b ; ; ) ;")
+        ++ codes "in x ) ; ; ) ; for ( ( 1 in x ) ? a : b ; ; ) ;")
         (codes "for((1 in x)+2;;);for(!(1 in x);;);for(a=(1 in x);;);for((1 in x)?a:b;;);\n") }
     ensures header_function { row.Reads Source
         (codes "for ( a = function ( ) { 1 in x ; for ( ( 2 in y ) ; ; ) ; } ; ; ) ;")

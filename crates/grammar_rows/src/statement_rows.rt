@@ -10,8 +10,8 @@ pub fn statements()
     ensures blocks { row.Reads Source (codes "{ } { a ; { b } }") (codes "{}{a;{b;}}\n") }
     ensures variables { row.Reads Source (codes "var a ; var b , c = 1 , d = e , f")
         (codes "var a;var b,c=1,d=e,f;\n") }
-    ensures initialisers { row.Same Source (codes "var a = b = c , d = e? f : g")
-        (codes "var a = ( b = c ) , d = ( e? f : g )") }
+    ensures initialisers { row.Same Source (codes "var a = b = c , d = e ? f : g")
+        (codes "var a = ( b = c ) , d = ( e ? f : g )") }
     ensures empty { row.Reads Source (codes ";") (codes ";\n") }
     ensures choices { row.Reads Source
         (codes "if ( a ) b ; if ( a , b ) c ; else d ; if ( a ) { } else if ( b ) { } else { }")

@@ -28,8 +28,8 @@ new_without_arguments = same_tree Source (codes "new a ; new a . b ; new a [ b ]
 pub new_twice : Same Source (codes "new new a ; new new a ( b ) ; new new a ( b ) ( c )") (codes "new ( new a ) ; new ( new a ( b ) ) ; new ( new a ( b ) ) ( c )")
 new_twice = same_tree Source (codes "new new a ; new new a ( b ) ; new new a ( b ) ( c )") (codes "new ( new a ) ; new ( new a ( b ) ) ; new ( new a ( b ) ) ( c )") (Tree.MoreStmts (Tree.Do (Tree.New (Tree.New (Tree.Ident (codes "a")) Tree.NoExprs) Tree.NoExprs)) (Tree.MoreStmts (Tree.Do (Tree.New (Tree.New (Tree.Ident (codes "a")) (Tree.MoreExprs (Tree.Ident (codes "b")) Tree.NoExprs)) Tree.NoExprs)) (Tree.MoreStmts (Tree.Do (Tree.New (Tree.New (Tree.Ident (codes "a")) (Tree.MoreExprs (Tree.Ident (codes "b")) Tree.NoExprs)) (Tree.MoreExprs (Tree.Ident (codes "c")) Tree.NoExprs))) Tree.NoStmts))) (word w.New false ∷ word w.New false ∷ name (codes "a") false ∷ mark m.Semicolon false ∷ word w.New false ∷ word w.New false ∷ name (codes "a") false ∷ mark m.OpenParenthesis false ∷ name (codes "b") false ∷ mark m.CloseParenthesis false ∷ mark m.Semicolon false ∷ word w.New false ∷ word w.New false ∷ name (codes "a") false ∷ mark m.OpenParenthesis false ∷ name (codes "b") false ∷ mark m.CloseParenthesis false ∷ mark m.OpenParenthesis false ∷ name (codes "c") false ∷ mark m.CloseParenthesis false ∷ []) (word w.New false ∷ mark m.OpenParenthesis false ∷ word w.New false ∷ name (codes "a") false ∷ mark m.CloseParenthesis false ∷ mark m.Semicolon false ∷ word w.New false ∷ mark m.OpenParenthesis false ∷ word w.New false ∷ name (codes "a") false ∷ mark m.OpenParenthesis false ∷ name (codes "b") false ∷ mark m.CloseParenthesis false ∷ mark m.CloseParenthesis false ∷ mark m.Semicolon false ∷ word w.New false ∷ mark m.OpenParenthesis false ∷ word w.New false ∷ name (codes "a") false ∷ mark m.OpenParenthesis false ∷ name (codes "b") false ∷ mark m.CloseParenthesis false ∷ mark m.CloseParenthesis false ∷ mark m.OpenParenthesis false ∷ name (codes "c") false ∷ mark m.CloseParenthesis false ∷ []) refl refl (g.source_and (g.statement (g.expression (g.bare_new false (lit≤ tt) (g.new_again false (g.member (g.identifier false (lit≤ tt) refl)))) (λ e. cc) (λ e. cc) (e.written false))) (g.source_and (g.statement (g.expression (g.bare_new false (lit≤ tt) (g.member (g.new false (lit≤ tt) (g.identifier false (lit≤ tt) refl) (g.arguments false false (g.last_argument (g.identifier false (lit≤ tt) refl)))))) (λ e. cc) (λ e. cc) (e.written false))) (g.source_and (g.statement (g.expression (g.new false (lit≤ tt) (g.new false (lit≤ tt) (g.identifier false (lit≤ tt) refl) (g.arguments false false (g.last_argument (g.identifier false (lit≤ tt) refl)))) (g.arguments false false (g.last_argument (g.identifier false (lit≤ tt) refl)))) (λ e. cc) (λ e. cc) (e.at_end refl))) g.no_source))) (record { few = lit≤ tt; low = lit≤ tt; flat = lit≤ tt; closed = lit≤ tt }) (g.source_and (g.statement (g.expression (g.bare_new false (lit≤ tt) (g.member (g.parenthesised false false (lit≤ tt) (g.bare_new false (lit≤ tt) (g.member (g.identifier false (lit≤ tt) refl)))))) (λ e. cc) (λ e. cc) (e.written false))) (g.source_and (g.statement (g.expression (g.bare_new false (lit≤ tt) (g.member (g.parenthesised false false (lit≤ tt) (g.new false (lit≤ tt) (g.identifier false (lit≤ tt) refl) (g.arguments false false (g.last_argument (g.identifier false (lit≤ tt) refl))))))) (λ e. cc) (λ e. cc) (e.written false))) (g.source_and (g.statement (g.expression (g.new false (lit≤ tt) (g.parenthesised false false (lit≤ tt) (g.new false (lit≤ tt) (g.identifier false (lit≤ tt) refl) (g.arguments false false (g.last_argument (g.identifier false (lit≤ tt) refl))))) (g.arguments false false (g.last_argument (g.identifier false (lit≤ tt) refl)))) (λ e. cc) (λ e. cc) (e.at_end refl))) g.no_source))) (record { few = lit≤ tt; low = lit≤ tt; flat = lit≤ tt; closed = lit≤ tt })
 
-pub new_in_operations : Same Source (codes "- new a + b ; new a? b : c") (codes "( - ( new a ) ) + b ; ( new a )? b : c")
-new_in_operations = same_tree Source (codes "- new a + b ; new a? b : c") (codes "( - ( new a ) ) + b ; ( new a )? b : c") (Tree.MoreStmts (Tree.Do (Tree.Binary b.Add (Tree.Prefix p.Minus (Tree.New (Tree.Ident (codes "a")) Tree.NoExprs)) (Tree.Ident (codes "b")))) (Tree.MoreStmts (Tree.Do (Tree.Cond (Tree.New (Tree.Ident (codes "a")) Tree.NoExprs) (Tree.Ident (codes "b")) (Tree.Ident (codes "c")))) Tree.NoStmts)) (mark m.Minus false ∷ word w.New false ∷ name (codes "a") false ∷ mark m.Plus false ∷ name (codes "b") false ∷ mark m.Semicolon false ∷ word w.New false ∷ name (codes "a") false ∷ mark m.Question false ∷ name (codes "b") false ∷ mark m.Colon false ∷ name (codes "c") false ∷ []) (mark m.OpenParenthesis false ∷ mark m.Minus false ∷ mark m.OpenParenthesis false ∷ word w.New false ∷ name (codes "a") false ∷ mark m.CloseParenthesis false ∷ mark m.CloseParenthesis false ∷ mark m.Plus false ∷ name (codes "b") false ∷ mark m.Semicolon false ∷ mark m.OpenParenthesis false ∷ word w.New false ∷ name (codes "a") false ∷ mark m.CloseParenthesis false ∷ mark m.Question false ∷ name (codes "b") false ∷ mark m.Colon false ∷ name (codes "c") false ∷ []) refl refl (g.source_and (g.statement (g.expression (g.binary (Operation b.Add) false (lit≤ tt) refl (g.prefix p.Minus false (lit≤ tt) refl (g.bare_new false (lit≤ tt) (g.member (g.identifier false (lit≤ tt) refl)))) (g.identifier false (lit≤ tt) refl)) (λ e. cc) (λ e. cc) (e.written false))) (g.source_and (g.statement (g.expression (g.conditional false false (lit≤ tt) (g.bare_new false (lit≤ tt) (g.member (g.identifier false (lit≤ tt) refl))) (g.identifier false (lit≤ tt) refl) (g.identifier false (lit≤ tt) refl)) (λ e. cc) (λ e. cc) (e.at_end refl))) g.no_source)) (record { few = lit≤ tt; low = lit≤ tt; flat = lit≤ tt; closed = lit≤ tt }) (g.source_and (g.statement (g.expression (g.binary (Operation b.Add) false (lit≤ tt) refl (g.parenthesised false false (lit≤ tt) (g.prefix p.Minus false (lit≤ tt) refl (g.parenthesised false false (lit≤ tt) (g.bare_new false (lit≤ tt) (g.member (g.identifier false (lit≤ tt) refl)))))) (g.identifier false (lit≤ tt) refl)) (λ e. cc) (λ e. cc) (e.written false))) (g.source_and (g.statement (g.expression (g.conditional false false (lit≤ tt) (g.parenthesised false false (lit≤ tt) (g.bare_new false (lit≤ tt) (g.member (g.identifier false (lit≤ tt) refl)))) (g.identifier false (lit≤ tt) refl) (g.identifier false (lit≤ tt) refl)) (λ e. cc) (λ e. cc) (e.at_end refl))) g.no_source)) (record { few = lit≤ tt; low = lit≤ tt; flat = lit≤ tt; closed = lit≤ tt })
+pub new_in_operations : Same Source (codes "- new a + b ; new a ? b : c") (codes "( - ( new a ) ) + b ; ( new a ) ? b : c")
+new_in_operations = same_tree Source (codes "- new a + b ; new a ? b : c") (codes "( - ( new a ) ) + b ; ( new a ) ? b : c") (Tree.MoreStmts (Tree.Do (Tree.Binary b.Add (Tree.Prefix p.Minus (Tree.New (Tree.Ident (codes "a")) Tree.NoExprs)) (Tree.Ident (codes "b")))) (Tree.MoreStmts (Tree.Do (Tree.Cond (Tree.New (Tree.Ident (codes "a")) Tree.NoExprs) (Tree.Ident (codes "b")) (Tree.Ident (codes "c")))) Tree.NoStmts)) (mark m.Minus false ∷ word w.New false ∷ name (codes "a") false ∷ mark m.Plus false ∷ name (codes "b") false ∷ mark m.Semicolon false ∷ word w.New false ∷ name (codes "a") false ∷ mark m.Question false ∷ name (codes "b") false ∷ mark m.Colon false ∷ name (codes "c") false ∷ []) (mark m.OpenParenthesis false ∷ mark m.Minus false ∷ mark m.OpenParenthesis false ∷ word w.New false ∷ name (codes "a") false ∷ mark m.CloseParenthesis false ∷ mark m.CloseParenthesis false ∷ mark m.Plus false ∷ name (codes "b") false ∷ mark m.Semicolon false ∷ mark m.OpenParenthesis false ∷ word w.New false ∷ name (codes "a") false ∷ mark m.CloseParenthesis false ∷ mark m.Question false ∷ name (codes "b") false ∷ mark m.Colon false ∷ name (codes "c") false ∷ []) refl refl (g.source_and (g.statement (g.expression (g.binary (Operation b.Add) false (lit≤ tt) refl (g.prefix p.Minus false (lit≤ tt) refl (g.bare_new false (lit≤ tt) (g.member (g.identifier false (lit≤ tt) refl)))) (g.identifier false (lit≤ tt) refl)) (λ e. cc) (λ e. cc) (e.written false))) (g.source_and (g.statement (g.expression (g.conditional false false (lit≤ tt) (g.bare_new false (lit≤ tt) (g.member (g.identifier false (lit≤ tt) refl))) (g.identifier false (lit≤ tt) refl) (g.identifier false (lit≤ tt) refl)) (λ e. cc) (λ e. cc) (e.at_end refl))) g.no_source)) (record { few = lit≤ tt; low = lit≤ tt; flat = lit≤ tt; closed = lit≤ tt }) (g.source_and (g.statement (g.expression (g.binary (Operation b.Add) false (lit≤ tt) refl (g.parenthesised false false (lit≤ tt) (g.prefix p.Minus false (lit≤ tt) refl (g.parenthesised false false (lit≤ tt) (g.bare_new false (lit≤ tt) (g.member (g.identifier false (lit≤ tt) refl)))))) (g.identifier false (lit≤ tt) refl)) (λ e. cc) (λ e. cc) (e.written false))) (g.source_and (g.statement (g.expression (g.conditional false false (lit≤ tt) (g.parenthesised false false (lit≤ tt) (g.bare_new false (lit≤ tt) (g.member (g.identifier false (lit≤ tt) refl)))) (g.identifier false (lit≤ tt) refl) (g.identifier false (lit≤ tt) refl)) (λ e. cc) (λ e. cc) (e.at_end refl))) g.no_source)) (record { few = lit≤ tt; low = lit≤ tt; flat = lit≤ tt; closed = lit≤ tt })
 
 pub argument_list_ends : BreaksAt Source (codes "a ( b ,") (codes ")")
 argument_list_ends = breaks_at Source (codes "a ( b ,") (codes ")") (Tree.MoreStmts (Tree.Do (Tree.Call (Tree.Ident (codes "a")) (Tree.MoreExprs (Tree.Ident (codes "b")) (Tree.MoreExprs (Tree.Ident (codes "c")) Tree.NoExprs)))) Tree.NoStmts) (name (codes "c") false ∷ mark m.CloseParenthesis false ∷ mark m.Semicolon false ∷ []) (name (codes "a") false ∷ mark m.OpenParenthesis false ∷ name (codes "b") false ∷ mark m.Comma false ∷ name (codes "c") false ∷ mark m.CloseParenthesis false ∷ mark m.Semicolon false ∷ []) (name (codes "a") false ∷ mark m.OpenParenthesis false ∷ name (codes "b") false ∷ mark m.Comma false ∷ mark m.CloseParenthesis false ∷ []) refl refl (g.source_and (g.statement (g.expression (g.call (lit≤ tt) (g.identifier false (lit≤ tt) refl) (g.arguments false false (g.argument_and false (g.identifier false (lit≤ tt) refl) (g.last_argument (g.identifier false (lit≤ tt) refl))))) (λ e. cc) (λ e. cc) (e.written false))) g.no_source) (lit≤ tt) (λ others. refl)

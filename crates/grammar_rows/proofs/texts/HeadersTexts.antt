@@ -25,9 +25,9 @@ pub in_parentheses : Reads Source (codes "for ( ( 1 in x ) ; ; ) ; for ( ( ( 1 i
 unfolding unicode_ident utf16_chars digits
 in_parentheses = reads_as Source (codes "for ( ( 1 in x ) ; ; ) ; for ( ( ( 1 in x ) , 2 ) ; ; ) ;") (Tree.MoreStmts (Tree.For (Tree.First (Tree.Binary b.In (Tree.Num 1) (Tree.Ident (codes "x")))) Tree.NoExpr Tree.NoExpr Tree.Empty) (Tree.MoreStmts (Tree.For (Tree.First (Tree.Comma (Tree.Binary b.In (Tree.Num 1) (Tree.Ident (codes "x"))) (Tree.Num 2))) Tree.NoExpr Tree.NoExpr Tree.Empty) Tree.NoStmts)) (word w.For false ∷ mark m.OpenParenthesis false ∷ mark m.OpenParenthesis false ∷ number 1 false ∷ word w.In false ∷ name (codes "x") false ∷ mark m.CloseParenthesis false ∷ mark m.Semicolon false ∷ mark m.Semicolon false ∷ mark m.CloseParenthesis false ∷ mark m.Semicolon false ∷ word w.For false ∷ mark m.OpenParenthesis false ∷ mark m.OpenParenthesis false ∷ mark m.OpenParenthesis false ∷ number 1 false ∷ word w.In false ∷ name (codes "x") false ∷ mark m.CloseParenthesis false ∷ mark m.Comma false ∷ number 2 false ∷ mark m.CloseParenthesis false ∷ mark m.Semicolon false ∷ mark m.Semicolon false ∷ mark m.CloseParenthesis false ∷ mark m.Semicolon false ∷ []) refl (g.source_and (g.statement (g.for false false false false false (g.expression_first (g.parenthesised false false (lit≤ tt) (g.binary (Operation b.In) false (lit≤ tt) refl (g.numeral true false (lit≤ tt)) (g.identifier false (lit≤ tt) refl)))) g.absent g.absent (g.empty false))) (g.source_and (g.statement (g.for false false false false false (g.expression_first (g.parenthesised false false (lit≤ tt) (g.comma false (lit≤ tt) (g.parenthesised false false (lit≤ tt) (g.binary (Operation b.In) false (lit≤ tt) refl (g.numeral true false (lit≤ tt)) (g.identifier false (lit≤ tt) refl))) (g.numeral true false (lit≤ tt))))) g.absent g.absent (g.empty false))) g.no_source)) (record { few = lit≤ tt; low = lit≤ tt; flat = lit≤ tt; closed = lit≤ tt }) refl
 
-pub in_the_middle : Reads Source (codes "for ( a? 1 in x : b ; ; ) ;") (codes "for(a?(1 in x):b;;);\n")
+pub in_the_middle : Reads Source (codes "for ( a ? 1 in x : b ; ; ) ;") (codes "for(a?(1 in x):b;;);\n")
 unfolding unicode_ident utf16_chars digits
-in_the_middle = reads_as Source (codes "for ( a? 1 in x : b ; ; ) ;") (Tree.MoreStmts (Tree.For (Tree.First (Tree.Cond (Tree.Ident (codes "a")) (Tree.Binary b.In (Tree.Num 1) (Tree.Ident (codes "x"))) (Tree.Ident (codes "b")))) Tree.NoExpr Tree.NoExpr Tree.Empty) Tree.NoStmts) (word w.For false ∷ mark m.OpenParenthesis false ∷ name (codes "a") false ∷ mark m.Question false ∷ number 1 false ∷ word w.In false ∷ name (codes "x") false ∷ mark m.Colon false ∷ name (codes "b") false ∷ mark m.Semicolon false ∷ mark m.Semicolon false ∷ mark m.CloseParenthesis false ∷ mark m.Semicolon false ∷ []) refl (g.source_and (g.statement (g.for false false false false false (g.expression_first (g.conditional false false (lit≤ tt) (g.identifier false (lit≤ tt) refl) (g.binary (Operation b.In) false (lit≤ tt) refl (g.numeral true false (lit≤ tt)) (g.identifier false (lit≤ tt) refl)) (g.identifier false (lit≤ tt) refl))) g.absent g.absent (g.empty false))) g.no_source) (record { few = lit≤ tt; low = lit≤ tt; flat = lit≤ tt; closed = lit≤ tt }) refl
+in_the_middle = reads_as Source (codes "for ( a ? 1 in x : b ; ; ) ;") (Tree.MoreStmts (Tree.For (Tree.First (Tree.Cond (Tree.Ident (codes "a")) (Tree.Binary b.In (Tree.Num 1) (Tree.Ident (codes "x"))) (Tree.Ident (codes "b")))) Tree.NoExpr Tree.NoExpr Tree.Empty) Tree.NoStmts) (word w.For false ∷ mark m.OpenParenthesis false ∷ name (codes "a") false ∷ mark m.Question false ∷ number 1 false ∷ word w.In false ∷ name (codes "x") false ∷ mark m.Colon false ∷ name (codes "b") false ∷ mark m.Semicolon false ∷ mark m.Semicolon false ∷ mark m.CloseParenthesis false ∷ mark m.Semicolon false ∷ []) refl (g.source_and (g.statement (g.for false false false false false (g.expression_first (g.conditional false false (lit≤ tt) (g.identifier false (lit≤ tt) refl) (g.binary (Operation b.In) false (lit≤ tt) refl (g.numeral true false (lit≤ tt)) (g.identifier false (lit≤ tt) refl)) (g.identifier false (lit≤ tt) refl))) g.absent g.absent (g.empty false))) g.no_source) (record { few = lit≤ tt; low = lit≤ tt; flat = lit≤ tt; closed = lit≤ tt }) refl
 
 pub in_a_function : Reads Source (codes "for ( a = function ( ) { 1 in x ; } ; ; ) ;") (codes "for(a=function(){1 in x;};;);\n")
 unfolding unicode_ident utf16_chars digits
@@ -53,8 +53,8 @@ in_second_name = breaks_at Source (codes "for ( var i , j") (codes "in") (Tree.M
 pub in_disjunction : BreaksAt Source (codes "for ( a || 1") (codes "in")
 in_disjunction = breaks_at Source (codes "for ( a || 1") (codes "in") (Tree.MoreStmts (Tree.For (Tree.First (Tree.Or (Tree.Ident (codes "a")) (Tree.Num 1))) Tree.NoExpr Tree.NoExpr Tree.Empty) Tree.NoStmts) (mark m.Semicolon false ∷ mark m.Semicolon false ∷ mark m.CloseParenthesis false ∷ mark m.Semicolon false ∷ []) (word w.For false ∷ mark m.OpenParenthesis false ∷ name (codes "a") false ∷ mark m.Or false ∷ number 1 false ∷ mark m.Semicolon false ∷ mark m.Semicolon false ∷ mark m.CloseParenthesis false ∷ mark m.Semicolon false ∷ []) (word w.For false ∷ mark m.OpenParenthesis false ∷ name (codes "a") false ∷ mark m.Or false ∷ number 1 false ∷ word w.In false ∷ []) refl refl (g.source_and (g.statement (g.for false false false false false (g.expression_first (g.binary LogicalOr false (lit≤ tt) refl (g.identifier false (lit≤ tt) refl) (g.numeral true false (lit≤ tt)))) g.absent g.absent (g.empty false))) g.no_source) (lit≤ tt) (λ others. refl)
 
-pub in_other : BreaksAt Source (codes "for ( a? b : 1") (codes "in")
-in_other = breaks_at Source (codes "for ( a? b : 1") (codes "in") (Tree.MoreStmts (Tree.For (Tree.First (Tree.Cond (Tree.Ident (codes "a")) (Tree.Ident (codes "b")) (Tree.Num 1))) Tree.NoExpr Tree.NoExpr Tree.Empty) Tree.NoStmts) (mark m.Semicolon false ∷ mark m.Semicolon false ∷ mark m.CloseParenthesis false ∷ mark m.Semicolon false ∷ []) (word w.For false ∷ mark m.OpenParenthesis false ∷ name (codes "a") false ∷ mark m.Question false ∷ name (codes "b") false ∷ mark m.Colon false ∷ number 1 false ∷ mark m.Semicolon false ∷ mark m.Semicolon false ∷ mark m.CloseParenthesis false ∷ mark m.Semicolon false ∷ []) (word w.For false ∷ mark m.OpenParenthesis false ∷ name (codes "a") false ∷ mark m.Question false ∷ name (codes "b") false ∷ mark m.Colon false ∷ number 1 false ∷ word w.In false ∷ []) refl refl (g.source_and (g.statement (g.for false false false false false (g.expression_first (g.conditional false false (lit≤ tt) (g.identifier false (lit≤ tt) refl) (g.identifier false (lit≤ tt) refl) (g.numeral true false (lit≤ tt)))) g.absent g.absent (g.empty false))) g.no_source) (lit≤ tt) (λ others. refl)
+pub in_other : BreaksAt Source (codes "for ( a ? b : 1") (codes "in")
+in_other = breaks_at Source (codes "for ( a ? b : 1") (codes "in") (Tree.MoreStmts (Tree.For (Tree.First (Tree.Cond (Tree.Ident (codes "a")) (Tree.Ident (codes "b")) (Tree.Num 1))) Tree.NoExpr Tree.NoExpr Tree.Empty) Tree.NoStmts) (mark m.Semicolon false ∷ mark m.Semicolon false ∷ mark m.CloseParenthesis false ∷ mark m.Semicolon false ∷ []) (word w.For false ∷ mark m.OpenParenthesis false ∷ name (codes "a") false ∷ mark m.Question false ∷ name (codes "b") false ∷ mark m.Colon false ∷ number 1 false ∷ mark m.Semicolon false ∷ mark m.Semicolon false ∷ mark m.CloseParenthesis false ∷ mark m.Semicolon false ∷ []) (word w.For false ∷ mark m.OpenParenthesis false ∷ name (codes "a") false ∷ mark m.Question false ∷ name (codes "b") false ∷ mark m.Colon false ∷ number 1 false ∷ word w.In false ∷ []) refl refl (g.source_and (g.statement (g.for false false false false false (g.expression_first (g.conditional false false (lit≤ tt) (g.identifier false (lit≤ tt) refl) (g.identifier false (lit≤ tt) refl) (g.numeral true false (lit≤ tt)))) g.absent g.absent (g.empty false))) g.no_source) (lit≤ tt) (λ others. refl)
 
 pub in_negation : BreaksAt Source (codes "for ( ! a") (codes "in")
 in_negation = breaks_at Source (codes "for ( ! a") (codes "in") (Tree.MoreStmts (Tree.For (Tree.First (Tree.Prefix p.Not (Tree.Ident (codes "a")))) Tree.NoExpr Tree.NoExpr Tree.Empty) Tree.NoStmts) (mark m.Semicolon false ∷ mark m.Semicolon false ∷ mark m.CloseParenthesis false ∷ mark m.Semicolon false ∷ []) (word w.For false ∷ mark m.OpenParenthesis false ∷ mark m.Not false ∷ name (codes "a") false ∷ mark m.Semicolon false ∷ mark m.Semicolon false ∷ mark m.CloseParenthesis false ∷ mark m.Semicolon false ∷ []) (word w.For false ∷ mark m.OpenParenthesis false ∷ mark m.Not false ∷ name (codes "a") false ∷ word w.In false ∷ []) refl refl (g.source_and (g.statement (g.for false false false false false (g.expression_first (g.prefix p.Not false (lit≤ tt) refl (g.identifier false (lit≤ tt) refl))) g.absent g.absent (g.empty false))) g.no_source) (lit≤ tt) (λ others. refl)

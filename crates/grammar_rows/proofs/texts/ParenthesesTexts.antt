@@ -18,9 +18,9 @@ use Rattle.js_parser.specs.Grammar.{code}
 use Rattle.grammar_rows.specs.TextRows.{Reads}
 use Rattle.grammar_rows.proofs.TextRowLemmas.{reads_as}
 
-pub below_a_level : Reads Source (codes "( a = b ) + c ; ( a , b ) + c ; ( a? b : c ) + d ; a + ( b = c )") (codes "(a=b)+c;(a,b)+c;(a?b:c)+d;a+(b=c);\n")
+pub below_a_level : Reads Source (codes "( a = b ) + c ; ( a , b ) + c ; ( a ? b : c ) + d ; a + ( b = c )") (codes "(a=b)+c;(a,b)+c;(a?b:c)+d;a+(b=c);\n")
 unfolding unicode_ident utf16_chars digits
-below_a_level = reads_as Source (codes "( a = b ) + c ; ( a , b ) + c ; ( a? b : c ) + d ; a + ( b = c )") (Tree.MoreStmts (Tree.Do (Tree.Binary b.Add (Tree.Assign None (Tree.Ident (codes "a")) (Tree.Ident (codes "b"))) (Tree.Ident (codes "c")))) (Tree.MoreStmts (Tree.Do (Tree.Binary b.Add (Tree.Comma (Tree.Ident (codes "a")) (Tree.Ident (codes "b"))) (Tree.Ident (codes "c")))) (Tree.MoreStmts (Tree.Do (Tree.Binary b.Add (Tree.Cond (Tree.Ident (codes "a")) (Tree.Ident (codes "b")) (Tree.Ident (codes "c"))) (Tree.Ident (codes "d")))) (Tree.MoreStmts (Tree.Do (Tree.Binary b.Add (Tree.Ident (codes "a")) (Tree.Assign None (Tree.Ident (codes "b")) (Tree.Ident (codes "c"))))) Tree.NoStmts)))) (mark m.OpenParenthesis false ∷ name (codes "a") false ∷ mark m.Assign false ∷ name (codes "b") false ∷ mark m.CloseParenthesis false ∷ mark m.Plus false ∷ name (codes "c") false ∷ mark m.Semicolon false ∷ mark m.OpenParenthesis false ∷ name (codes "a") false ∷ mark m.Comma false ∷ name (codes "b") false ∷ mark m.CloseParenthesis false ∷ mark m.Plus false ∷ name (codes "c") false ∷ mark m.Semicolon false ∷ mark m.OpenParenthesis false ∷ name (codes "a") false ∷ mark m.Question false ∷ name (codes "b") false ∷ mark m.Colon false ∷ name (codes "c") false ∷ mark m.CloseParenthesis false ∷ mark m.Plus false ∷ name (codes "d") false ∷ mark m.Semicolon false ∷ name (codes "a") false ∷ mark m.Plus false ∷ mark m.OpenParenthesis false ∷ name (codes "b") false ∷ mark m.Assign false ∷ name (codes "c") false ∷ mark m.CloseParenthesis false ∷ []) refl (g.source_and (g.statement (g.expression (g.binary (Operation b.Add) false (lit≤ tt) refl (g.parenthesised false false (lit≤ tt) (g.assign None m.Assign false (lit≤ tt) refl (g.identifier false (lit≤ tt) refl) refl (g.identifier false (lit≤ tt) refl))) (g.identifier false (lit≤ tt) refl)) (λ e. cc) (λ e. cc) (e.written false))) (g.source_and (g.statement (g.expression (g.binary (Operation b.Add) false (lit≤ tt) refl (g.parenthesised false false (lit≤ tt) (g.comma false (lit≤ tt) (g.identifier false (lit≤ tt) refl) (g.identifier false (lit≤ tt) refl))) (g.identifier false (lit≤ tt) refl)) (λ e. cc) (λ e. cc) (e.written false))) (g.source_and (g.statement (g.expression (g.binary (Operation b.Add) false (lit≤ tt) refl (g.parenthesised false false (lit≤ tt) (g.conditional false false (lit≤ tt) (g.identifier false (lit≤ tt) refl) (g.identifier false (lit≤ tt) refl) (g.identifier false (lit≤ tt) refl))) (g.identifier false (lit≤ tt) refl)) (λ e. cc) (λ e. cc) (e.written false))) (g.source_and (g.statement (g.expression (g.binary (Operation b.Add) false (lit≤ tt) refl (g.identifier false (lit≤ tt) refl) (g.parenthesised false false (lit≤ tt) (g.assign None m.Assign false (lit≤ tt) refl (g.identifier false (lit≤ tt) refl) refl (g.identifier false (lit≤ tt) refl)))) (λ e. cc) (λ e. cc) (e.at_end refl))) g.no_source)))) (record { few = lit≤ tt; low = lit≤ tt; flat = lit≤ tt; closed = lit≤ tt }) refl
+below_a_level = reads_as Source (codes "( a = b ) + c ; ( a , b ) + c ; ( a ? b : c ) + d ; a + ( b = c )") (Tree.MoreStmts (Tree.Do (Tree.Binary b.Add (Tree.Assign None (Tree.Ident (codes "a")) (Tree.Ident (codes "b"))) (Tree.Ident (codes "c")))) (Tree.MoreStmts (Tree.Do (Tree.Binary b.Add (Tree.Comma (Tree.Ident (codes "a")) (Tree.Ident (codes "b"))) (Tree.Ident (codes "c")))) (Tree.MoreStmts (Tree.Do (Tree.Binary b.Add (Tree.Cond (Tree.Ident (codes "a")) (Tree.Ident (codes "b")) (Tree.Ident (codes "c"))) (Tree.Ident (codes "d")))) (Tree.MoreStmts (Tree.Do (Tree.Binary b.Add (Tree.Ident (codes "a")) (Tree.Assign None (Tree.Ident (codes "b")) (Tree.Ident (codes "c"))))) Tree.NoStmts)))) (mark m.OpenParenthesis false ∷ name (codes "a") false ∷ mark m.Assign false ∷ name (codes "b") false ∷ mark m.CloseParenthesis false ∷ mark m.Plus false ∷ name (codes "c") false ∷ mark m.Semicolon false ∷ mark m.OpenParenthesis false ∷ name (codes "a") false ∷ mark m.Comma false ∷ name (codes "b") false ∷ mark m.CloseParenthesis false ∷ mark m.Plus false ∷ name (codes "c") false ∷ mark m.Semicolon false ∷ mark m.OpenParenthesis false ∷ name (codes "a") false ∷ mark m.Question false ∷ name (codes "b") false ∷ mark m.Colon false ∷ name (codes "c") false ∷ mark m.CloseParenthesis false ∷ mark m.Plus false ∷ name (codes "d") false ∷ mark m.Semicolon false ∷ name (codes "a") false ∷ mark m.Plus false ∷ mark m.OpenParenthesis false ∷ name (codes "b") false ∷ mark m.Assign false ∷ name (codes "c") false ∷ mark m.CloseParenthesis false ∷ []) refl (g.source_and (g.statement (g.expression (g.binary (Operation b.Add) false (lit≤ tt) refl (g.parenthesised false false (lit≤ tt) (g.assign None m.Assign false (lit≤ tt) refl (g.identifier false (lit≤ tt) refl) refl (g.identifier false (lit≤ tt) refl))) (g.identifier false (lit≤ tt) refl)) (λ e. cc) (λ e. cc) (e.written false))) (g.source_and (g.statement (g.expression (g.binary (Operation b.Add) false (lit≤ tt) refl (g.parenthesised false false (lit≤ tt) (g.comma false (lit≤ tt) (g.identifier false (lit≤ tt) refl) (g.identifier false (lit≤ tt) refl))) (g.identifier false (lit≤ tt) refl)) (λ e. cc) (λ e. cc) (e.written false))) (g.source_and (g.statement (g.expression (g.binary (Operation b.Add) false (lit≤ tt) refl (g.parenthesised false false (lit≤ tt) (g.conditional false false (lit≤ tt) (g.identifier false (lit≤ tt) refl) (g.identifier false (lit≤ tt) refl) (g.identifier false (lit≤ tt) refl))) (g.identifier false (lit≤ tt) refl)) (λ e. cc) (λ e. cc) (e.written false))) (g.source_and (g.statement (g.expression (g.binary (Operation b.Add) false (lit≤ tt) refl (g.identifier false (lit≤ tt) refl) (g.parenthesised false false (lit≤ tt) (g.assign None m.Assign false (lit≤ tt) refl (g.identifier false (lit≤ tt) refl) refl (g.identifier false (lit≤ tt) refl)))) (λ e. cc) (λ e. cc) (e.at_end refl))) g.no_source)))) (record { few = lit≤ tt; low = lit≤ tt; flat = lit≤ tt; closed = lit≤ tt }) refl
 
 pub at_a_level : Reads Source (codes "( a + b ) + c ; a + ( b + c ) ; ( a * b ) + c ; a * ( b + c ) ; ( a + b ) * c") (codes "a+b+c;a+(b+c);a*b+c;a*(b+c);(a+b)*c;\n")
 unfolding unicode_ident utf16_chars digits
@@ -38,9 +38,9 @@ pub more_commas : Reads Source (codes "a ( b , ( c , d ) ) ; [ a , ( b , c ) ] ;
 unfolding unicode_ident utf16_chars digits
 more_commas = reads_as Source (codes "a ( b , ( c , d ) ) ; [ a , ( b , c ) ] ; ( { a : b , c : ( d , e ) } ) ; var a = ( b , c ) , d = ( e , f )") (Tree.MoreStmts (Tree.Do (Tree.Call (Tree.Ident (codes "a")) (Tree.MoreExprs (Tree.Ident (codes "b")) (Tree.MoreExprs (Tree.Comma (Tree.Ident (codes "c")) (Tree.Ident (codes "d"))) Tree.NoExprs)))) (Tree.MoreStmts (Tree.Do (Tree.Array (Tree.MoreElements (Tree.AnExpr (Tree.Ident (codes "a"))) (Tree.MoreElements (Tree.AnExpr (Tree.Comma (Tree.Ident (codes "b")) (Tree.Ident (codes "c")))) Tree.NoElements)))) (Tree.MoreStmts (Tree.Do (Tree.Object (Tree.MorePairs (codes "a") (Tree.Ident (codes "b")) (Tree.MorePairs (codes "c") (Tree.Comma (Tree.Ident (codes "d")) (Tree.Ident (codes "e"))) Tree.NoPairs)))) (Tree.MoreStmts (Tree.Variables (Tree.MoreVarItems (codes "a") (Tree.AnExpr (Tree.Comma (Tree.Ident (codes "b")) (Tree.Ident (codes "c")))) (Tree.MoreVarItems (codes "d") (Tree.AnExpr (Tree.Comma (Tree.Ident (codes "e")) (Tree.Ident (codes "f")))) Tree.NoVarItems))) Tree.NoStmts)))) (name (codes "a") false ∷ mark m.OpenParenthesis false ∷ name (codes "b") false ∷ mark m.Comma false ∷ mark m.OpenParenthesis false ∷ name (codes "c") false ∷ mark m.Comma false ∷ name (codes "d") false ∷ mark m.CloseParenthesis false ∷ mark m.CloseParenthesis false ∷ mark m.Semicolon false ∷ mark m.OpenBracket false ∷ name (codes "a") false ∷ mark m.Comma false ∷ mark m.OpenParenthesis false ∷ name (codes "b") false ∷ mark m.Comma false ∷ name (codes "c") false ∷ mark m.CloseParenthesis false ∷ mark m.CloseBracket false ∷ mark m.Semicolon false ∷ mark m.OpenParenthesis false ∷ mark m.OpenBrace false ∷ name (codes "a") false ∷ mark m.Colon false ∷ name (codes "b") false ∷ mark m.Comma false ∷ name (codes "c") false ∷ mark m.Colon false ∷ mark m.OpenParenthesis false ∷ name (codes "d") false ∷ mark m.Comma false ∷ name (codes "e") false ∷ mark m.CloseParenthesis false ∷ mark m.CloseBrace false ∷ mark m.CloseParenthesis false ∷ mark m.Semicolon false ∷ word w.Var false ∷ name (codes "a") false ∷ mark m.Assign false ∷ mark m.OpenParenthesis false ∷ name (codes "b") false ∷ mark m.Comma false ∷ name (codes "c") false ∷ mark m.CloseParenthesis false ∷ mark m.Comma false ∷ name (codes "d") false ∷ mark m.Assign false ∷ mark m.OpenParenthesis false ∷ name (codes "e") false ∷ mark m.Comma false ∷ name (codes "f") false ∷ mark m.CloseParenthesis false ∷ []) refl (g.source_and (g.statement (g.expression (g.call (lit≤ tt) (g.identifier false (lit≤ tt) refl) (g.arguments false false (g.argument_and false (g.identifier false (lit≤ tt) refl) (g.last_argument (g.parenthesised false false (lit≤ tt) (g.comma false (lit≤ tt) (g.identifier false (lit≤ tt) refl) (g.identifier false (lit≤ tt) refl))))))) (λ e. cc) (λ e. cc) (e.written false))) (g.source_and (g.statement (g.expression (g.array false false (lit≤ tt) (g.element_and false (g.identifier false (lit≤ tt) refl) (g.last_element (g.parenthesised false false (lit≤ tt) (g.comma false (lit≤ tt) (g.identifier false (lit≤ tt) refl) (g.identifier false (lit≤ tt) refl)))))) (λ e. cc) (λ e. cc) (e.written false))) (g.source_and (g.statement (g.expression (g.parenthesised false false (lit≤ tt) (g.object false false (lit≤ tt) (g.property_and (name (codes "a") false) false false refl (g.identifier false (lit≤ tt) refl) (g.last_property (name (codes "c") false) false refl (g.parenthesised false false (lit≤ tt) (g.comma false (lit≤ tt) (g.identifier false (lit≤ tt) refl) (g.identifier false (lit≤ tt) refl))))))) (λ e. cc) (λ e. cc) (e.written false))) (g.source_and (g.statement (g.variables false (g.declarator_and false (g.initialised false false refl (g.parenthesised false false (lit≤ tt) (g.comma false (lit≤ tt) (g.identifier false (lit≤ tt) refl) (g.identifier false (lit≤ tt) refl)))) (g.last_declarator (g.initialised false false refl (g.parenthesised false false (lit≤ tt) (g.comma false (lit≤ tt) (g.identifier false (lit≤ tt) refl) (g.identifier false (lit≤ tt) refl)))))) (e.at_end refl))) g.no_source)))) (record { few = lit≤ tt; low = lit≤ tt; flat = lit≤ tt; closed = lit≤ tt }) refl
 
-pub conditionals : Reads Source (codes "( a? b : c )? d : e ; ( a = b )? c : d ; a? ( b , c ) : ( d , e ) ; a? ( b = c ) : ( d = e ) ; ( a || b )? c : d") (codes "(a?b:c)?d:e;(a=b)?c:d;a?(b,c):(d,e);a?b=c:d=e;a||b?c:d;\n")
+pub conditionals : Reads Source (codes "( a ? b : c ) ? d : e ; ( a = b ) ? c : d ; a ? ( b , c ) : ( d , e ) ; a ? ( b = c ) : ( d = e ) ; ( a || b ) ? c : d") (codes "(a?b:c)?d:e;(a=b)?c:d;a?(b,c):(d,e);a?b=c:d=e;a||b?c:d;\n")
 unfolding unicode_ident utf16_chars digits
-conditionals = reads_as Source (codes "( a? b : c )? d : e ; ( a = b )? c : d ; a? ( b , c ) : ( d , e ) ; a? ( b = c ) : ( d = e ) ; ( a || b )? c : d") (Tree.MoreStmts (Tree.Do (Tree.Cond (Tree.Cond (Tree.Ident (codes "a")) (Tree.Ident (codes "b")) (Tree.Ident (codes "c"))) (Tree.Ident (codes "d")) (Tree.Ident (codes "e")))) (Tree.MoreStmts (Tree.Do (Tree.Cond (Tree.Assign None (Tree.Ident (codes "a")) (Tree.Ident (codes "b"))) (Tree.Ident (codes "c")) (Tree.Ident (codes "d")))) (Tree.MoreStmts (Tree.Do (Tree.Cond (Tree.Ident (codes "a")) (Tree.Comma (Tree.Ident (codes "b")) (Tree.Ident (codes "c"))) (Tree.Comma (Tree.Ident (codes "d")) (Tree.Ident (codes "e"))))) (Tree.MoreStmts (Tree.Do (Tree.Cond (Tree.Ident (codes "a")) (Tree.Assign None (Tree.Ident (codes "b")) (Tree.Ident (codes "c"))) (Tree.Assign None (Tree.Ident (codes "d")) (Tree.Ident (codes "e"))))) (Tree.MoreStmts (Tree.Do (Tree.Cond (Tree.Or (Tree.Ident (codes "a")) (Tree.Ident (codes "b"))) (Tree.Ident (codes "c")) (Tree.Ident (codes "d")))) Tree.NoStmts))))) (mark m.OpenParenthesis false ∷ name (codes "a") false ∷ mark m.Question false ∷ name (codes "b") false ∷ mark m.Colon false ∷ name (codes "c") false ∷ mark m.CloseParenthesis false ∷ mark m.Question false ∷ name (codes "d") false ∷ mark m.Colon false ∷ name (codes "e") false ∷ mark m.Semicolon false ∷ mark m.OpenParenthesis false ∷ name (codes "a") false ∷ mark m.Assign false ∷ name (codes "b") false ∷ mark m.CloseParenthesis false ∷ mark m.Question false ∷ name (codes "c") false ∷ mark m.Colon false ∷ name (codes "d") false ∷ mark m.Semicolon false ∷ name (codes "a") false ∷ mark m.Question false ∷ mark m.OpenParenthesis false ∷ name (codes "b") false ∷ mark m.Comma false ∷ name (codes "c") false ∷ mark m.CloseParenthesis false ∷ mark m.Colon false ∷ mark m.OpenParenthesis false ∷ name (codes "d") false ∷ mark m.Comma false ∷ name (codes "e") false ∷ mark m.CloseParenthesis false ∷ mark m.Semicolon false ∷ name (codes "a") false ∷ mark m.Question false ∷ mark m.OpenParenthesis false ∷ name (codes "b") false ∷ mark m.Assign false ∷ name (codes "c") false ∷ mark m.CloseParenthesis false ∷ mark m.Colon false ∷ mark m.OpenParenthesis false ∷ name (codes "d") false ∷ mark m.Assign false ∷ name (codes "e") false ∷ mark m.CloseParenthesis false ∷ mark m.Semicolon false ∷ mark m.OpenParenthesis false ∷ name (codes "a") false ∷ mark m.Or false ∷ name (codes "b") false ∷ mark m.CloseParenthesis false ∷ mark m.Question false ∷ name (codes "c") false ∷ mark m.Colon false ∷ name (codes "d") false ∷ []) refl (g.source_and (g.statement (g.expression (g.conditional false false (lit≤ tt) (g.parenthesised false false (lit≤ tt) (g.conditional false false (lit≤ tt) (g.identifier false (lit≤ tt) refl) (g.identifier false (lit≤ tt) refl) (g.identifier false (lit≤ tt) refl))) (g.identifier false (lit≤ tt) refl) (g.identifier false (lit≤ tt) refl)) (λ e. cc) (λ e. cc) (e.written false))) (g.source_and (g.statement (g.expression (g.conditional false false (lit≤ tt) (g.parenthesised false false (lit≤ tt) (g.assign None m.Assign false (lit≤ tt) refl (g.identifier false (lit≤ tt) refl) refl (g.identifier false (lit≤ tt) refl))) (g.identifier false (lit≤ tt) refl) (g.identifier false (lit≤ tt) refl)) (λ e. cc) (λ e. cc) (e.written false))) (g.source_and (g.statement (g.expression (g.conditional false false (lit≤ tt) (g.identifier false (lit≤ tt) refl) (g.parenthesised false false (lit≤ tt) (g.comma false (lit≤ tt) (g.identifier false (lit≤ tt) refl) (g.identifier false (lit≤ tt) refl))) (g.parenthesised false false (lit≤ tt) (g.comma false (lit≤ tt) (g.identifier false (lit≤ tt) refl) (g.identifier false (lit≤ tt) refl)))) (λ e. cc) (λ e. cc) (e.written false))) (g.source_and (g.statement (g.expression (g.conditional false false (lit≤ tt) (g.identifier false (lit≤ tt) refl) (g.parenthesised false false (lit≤ tt) (g.assign None m.Assign false (lit≤ tt) refl (g.identifier false (lit≤ tt) refl) refl (g.identifier false (lit≤ tt) refl))) (g.parenthesised false false (lit≤ tt) (g.assign None m.Assign false (lit≤ tt) refl (g.identifier false (lit≤ tt) refl) refl (g.identifier false (lit≤ tt) refl)))) (λ e. cc) (λ e. cc) (e.written false))) (g.source_and (g.statement (g.expression (g.conditional false false (lit≤ tt) (g.parenthesised false false (lit≤ tt) (g.binary LogicalOr false (lit≤ tt) refl (g.identifier false (lit≤ tt) refl) (g.identifier false (lit≤ tt) refl))) (g.identifier false (lit≤ tt) refl) (g.identifier false (lit≤ tt) refl)) (λ e. cc) (λ e. cc) (e.at_end refl))) g.no_source))))) (record { few = lit≤ tt; low = lit≤ tt; flat = lit≤ tt; closed = lit≤ tt }) refl
+conditionals = reads_as Source (codes "( a ? b : c ) ? d : e ; ( a = b ) ? c : d ; a ? ( b , c ) : ( d , e ) ; a ? ( b = c ) : ( d = e ) ; ( a || b ) ? c : d") (Tree.MoreStmts (Tree.Do (Tree.Cond (Tree.Cond (Tree.Ident (codes "a")) (Tree.Ident (codes "b")) (Tree.Ident (codes "c"))) (Tree.Ident (codes "d")) (Tree.Ident (codes "e")))) (Tree.MoreStmts (Tree.Do (Tree.Cond (Tree.Assign None (Tree.Ident (codes "a")) (Tree.Ident (codes "b"))) (Tree.Ident (codes "c")) (Tree.Ident (codes "d")))) (Tree.MoreStmts (Tree.Do (Tree.Cond (Tree.Ident (codes "a")) (Tree.Comma (Tree.Ident (codes "b")) (Tree.Ident (codes "c"))) (Tree.Comma (Tree.Ident (codes "d")) (Tree.Ident (codes "e"))))) (Tree.MoreStmts (Tree.Do (Tree.Cond (Tree.Ident (codes "a")) (Tree.Assign None (Tree.Ident (codes "b")) (Tree.Ident (codes "c"))) (Tree.Assign None (Tree.Ident (codes "d")) (Tree.Ident (codes "e"))))) (Tree.MoreStmts (Tree.Do (Tree.Cond (Tree.Or (Tree.Ident (codes "a")) (Tree.Ident (codes "b"))) (Tree.Ident (codes "c")) (Tree.Ident (codes "d")))) Tree.NoStmts))))) (mark m.OpenParenthesis false ∷ name (codes "a") false ∷ mark m.Question false ∷ name (codes "b") false ∷ mark m.Colon false ∷ name (codes "c") false ∷ mark m.CloseParenthesis false ∷ mark m.Question false ∷ name (codes "d") false ∷ mark m.Colon false ∷ name (codes "e") false ∷ mark m.Semicolon false ∷ mark m.OpenParenthesis false ∷ name (codes "a") false ∷ mark m.Assign false ∷ name (codes "b") false ∷ mark m.CloseParenthesis false ∷ mark m.Question false ∷ name (codes "c") false ∷ mark m.Colon false ∷ name (codes "d") false ∷ mark m.Semicolon false ∷ name (codes "a") false ∷ mark m.Question false ∷ mark m.OpenParenthesis false ∷ name (codes "b") false ∷ mark m.Comma false ∷ name (codes "c") false ∷ mark m.CloseParenthesis false ∷ mark m.Colon false ∷ mark m.OpenParenthesis false ∷ name (codes "d") false ∷ mark m.Comma false ∷ name (codes "e") false ∷ mark m.CloseParenthesis false ∷ mark m.Semicolon false ∷ name (codes "a") false ∷ mark m.Question false ∷ mark m.OpenParenthesis false ∷ name (codes "b") false ∷ mark m.Assign false ∷ name (codes "c") false ∷ mark m.CloseParenthesis false ∷ mark m.Colon false ∷ mark m.OpenParenthesis false ∷ name (codes "d") false ∷ mark m.Assign false ∷ name (codes "e") false ∷ mark m.CloseParenthesis false ∷ mark m.Semicolon false ∷ mark m.OpenParenthesis false ∷ name (codes "a") false ∷ mark m.Or false ∷ name (codes "b") false ∷ mark m.CloseParenthesis false ∷ mark m.Question false ∷ name (codes "c") false ∷ mark m.Colon false ∷ name (codes "d") false ∷ []) refl (g.source_and (g.statement (g.expression (g.conditional false false (lit≤ tt) (g.parenthesised false false (lit≤ tt) (g.conditional false false (lit≤ tt) (g.identifier false (lit≤ tt) refl) (g.identifier false (lit≤ tt) refl) (g.identifier false (lit≤ tt) refl))) (g.identifier false (lit≤ tt) refl) (g.identifier false (lit≤ tt) refl)) (λ e. cc) (λ e. cc) (e.written false))) (g.source_and (g.statement (g.expression (g.conditional false false (lit≤ tt) (g.parenthesised false false (lit≤ tt) (g.assign None m.Assign false (lit≤ tt) refl (g.identifier false (lit≤ tt) refl) refl (g.identifier false (lit≤ tt) refl))) (g.identifier false (lit≤ tt) refl) (g.identifier false (lit≤ tt) refl)) (λ e. cc) (λ e. cc) (e.written false))) (g.source_and (g.statement (g.expression (g.conditional false false (lit≤ tt) (g.identifier false (lit≤ tt) refl) (g.parenthesised false false (lit≤ tt) (g.comma false (lit≤ tt) (g.identifier false (lit≤ tt) refl) (g.identifier false (lit≤ tt) refl))) (g.parenthesised false false (lit≤ tt) (g.comma false (lit≤ tt) (g.identifier false (lit≤ tt) refl) (g.identifier false (lit≤ tt) refl)))) (λ e. cc) (λ e. cc) (e.written false))) (g.source_and (g.statement (g.expression (g.conditional false false (lit≤ tt) (g.identifier false (lit≤ tt) refl) (g.parenthesised false false (lit≤ tt) (g.assign None m.Assign false (lit≤ tt) refl (g.identifier false (lit≤ tt) refl) refl (g.identifier false (lit≤ tt) refl))) (g.parenthesised false false (lit≤ tt) (g.assign None m.Assign false (lit≤ tt) refl (g.identifier false (lit≤ tt) refl) refl (g.identifier false (lit≤ tt) refl)))) (λ e. cc) (λ e. cc) (e.written false))) (g.source_and (g.statement (g.expression (g.conditional false false (lit≤ tt) (g.parenthesised false false (lit≤ tt) (g.binary LogicalOr false (lit≤ tt) refl (g.identifier false (lit≤ tt) refl) (g.identifier false (lit≤ tt) refl))) (g.identifier false (lit≤ tt) refl) (g.identifier false (lit≤ tt) refl)) (λ e. cc) (λ e. cc) (e.at_end refl))) g.no_source))))) (record { few = lit≤ tt; low = lit≤ tt; flat = lit≤ tt; closed = lit≤ tt }) refl
 
 pub prefixes : Reads Source (codes "! ( a + b ) ; ! ( a ++ ) ; ( ! a ) + b ; - ( - a ) ; ! ( a = b ) ; ++ ( a . b )") (codes "!(a+b);!a++;!a+b;- -a;!(a=b);++a.b;\n")
 unfolding unicode_ident utf16_chars digits
@@ -82,13 +82,13 @@ pub header_brackets : Reads Source (codes "for ( [ 1 in x ] ; ; ) ; for ( a [ 1 
 unfolding unicode_ident utf16_chars digits
 header_brackets = reads_as Source (codes "for ( [ 1 in x ] ; ; ) ; for ( a [ 1 in x ] ; ; ) ; for ( a ( 1 in x ) ; ; ) ; for ( ( { a : 1 in x } ) ; ; ) ;") (Tree.MoreStmts (Tree.For (Tree.First (Tree.Array (Tree.MoreElements (Tree.AnExpr (Tree.Binary b.In (Tree.Num 1) (Tree.Ident (codes "x")))) Tree.NoElements))) Tree.NoExpr Tree.NoExpr Tree.Empty) (Tree.MoreStmts (Tree.For (Tree.First (Tree.Index (Tree.Ident (codes "a")) (Tree.Binary b.In (Tree.Num 1) (Tree.Ident (codes "x"))))) Tree.NoExpr Tree.NoExpr Tree.Empty) (Tree.MoreStmts (Tree.For (Tree.First (Tree.Call (Tree.Ident (codes "a")) (Tree.MoreExprs (Tree.Binary b.In (Tree.Num 1) (Tree.Ident (codes "x"))) Tree.NoExprs))) Tree.NoExpr Tree.NoExpr Tree.Empty) (Tree.MoreStmts (Tree.For (Tree.First (Tree.Object (Tree.MorePairs (codes "a") (Tree.Binary b.In (Tree.Num 1) (Tree.Ident (codes "x"))) Tree.NoPairs))) Tree.NoExpr Tree.NoExpr Tree.Empty) Tree.NoStmts)))) (word w.For false ∷ mark m.OpenParenthesis false ∷ mark m.OpenBracket false ∷ number 1 false ∷ word w.In false ∷ name (codes "x") false ∷ mark m.CloseBracket false ∷ mark m.Semicolon false ∷ mark m.Semicolon false ∷ mark m.CloseParenthesis false ∷ mark m.Semicolon false ∷ word w.For false ∷ mark m.OpenParenthesis false ∷ name (codes "a") false ∷ mark m.OpenBracket false ∷ number 1 false ∷ word w.In false ∷ name (codes "x") false ∷ mark m.CloseBracket false ∷ mark m.Semicolon false ∷ mark m.Semicolon false ∷ mark m.CloseParenthesis false ∷ mark m.Semicolon false ∷ word w.For false ∷ mark m.OpenParenthesis false ∷ name (codes "a") false ∷ mark m.OpenParenthesis false ∷ number 1 false ∷ word w.In false ∷ name (codes "x") false ∷ mark m.CloseParenthesis false ∷ mark m.Semicolon false ∷ mark m.Semicolon false ∷ mark m.CloseParenthesis false ∷ mark m.Semicolon false ∷ word w.For false ∷ mark m.OpenParenthesis false ∷ mark m.OpenParenthesis false ∷ mark m.OpenBrace false ∷ name (codes "a") false ∷ mark m.Colon false ∷ number 1 false ∷ word w.In false ∷ name (codes "x") false ∷ mark m.CloseBrace false ∷ mark m.CloseParenthesis false ∷ mark m.Semicolon false ∷ mark m.Semicolon false ∷ mark m.CloseParenthesis false ∷ mark m.Semicolon false ∷ []) refl (g.source_and (g.statement (g.for false false false false false (g.expression_first (g.array false false (lit≤ tt) (g.last_element (g.binary (Operation b.In) false (lit≤ tt) refl (g.numeral true false (lit≤ tt)) (g.identifier false (lit≤ tt) refl))))) g.absent g.absent (g.empty false))) (g.source_and (g.statement (g.for false false false false false (g.expression_first (g.index 18 false false (lit≤ tt) (lit≤ tt) (lit≤ tt) (g.identifier false (lit≤ tt) refl) (g.binary (Operation b.In) false (lit≤ tt) refl (g.numeral true false (lit≤ tt)) (g.identifier false (lit≤ tt) refl)))) g.absent g.absent (g.empty false))) (g.source_and (g.statement (g.for false false false false false (g.expression_first (g.call (lit≤ tt) (g.identifier false (lit≤ tt) refl) (g.arguments false false (g.last_argument (g.binary (Operation b.In) false (lit≤ tt) refl (g.numeral true false (lit≤ tt)) (g.identifier false (lit≤ tt) refl)))))) g.absent g.absent (g.empty false))) (g.source_and (g.statement (g.for false false false false false (g.expression_first (g.parenthesised false false (lit≤ tt) (g.object false false (lit≤ tt) (g.last_property (name (codes "a") false) false refl (g.binary (Operation b.In) false (lit≤ tt) refl (g.numeral true false (lit≤ tt)) (g.identifier false (lit≤ tt) refl)))))) g.absent g.absent (g.empty false))) g.no_source)))) (record { few = lit≤ tt; low = lit≤ tt; flat = lit≤ tt; closed = lit≤ tt }) refl
 
-pub header_parentheses : Reads Source (codes "for ( ( ( 1 in x ) , 2 ) * 3 ; ; ) ; for ( a? 1 in x : ( 2 in y ) ; ; ) ; for ( var a = ( 1 in x ) in b ) ;") (codes "for((1 in x,2)*3;;);for(a?(1 in x):(2 in y);;);for(var a=(1 in x)in b);\n")
+pub header_parentheses : Reads Source (codes "for ( ( ( 1 in x ) , 2 ) * 3 ; ; ) ; for ( a ? 1 in x : ( 2 in y ) ; ; ) ; for ( var a = ( 1 in x ) in b ) ;") (codes "for((1 in x,2)*3;;);for(a?(1 in x):(2 in y);;);for(var a=(1 in x)in b);\n")
 unfolding unicode_ident utf16_chars digits
-header_parentheses = reads_as Source (codes "for ( ( ( 1 in x ) , 2 ) * 3 ; ; ) ; for ( a? 1 in x : ( 2 in y ) ; ; ) ; for ( var a = ( 1 in x ) in b ) ;") (Tree.MoreStmts (Tree.For (Tree.First (Tree.Binary b.Multiply (Tree.Comma (Tree.Binary b.In (Tree.Num 1) (Tree.Ident (codes "x"))) (Tree.Num 2)) (Tree.Num 3))) Tree.NoExpr Tree.NoExpr Tree.Empty) (Tree.MoreStmts (Tree.For (Tree.First (Tree.Cond (Tree.Ident (codes "a")) (Tree.Binary b.In (Tree.Num 1) (Tree.Ident (codes "x"))) (Tree.Binary b.In (Tree.Num 2) (Tree.Ident (codes "y"))))) Tree.NoExpr Tree.NoExpr Tree.Empty) (Tree.MoreStmts (Tree.ForIn (Tree.AVar (codes "a") (Tree.AnExpr (Tree.Binary b.In (Tree.Num 1) (Tree.Ident (codes "x"))))) (Tree.Ident (codes "b")) Tree.Empty) Tree.NoStmts))) (word w.For false ∷ mark m.OpenParenthesis false ∷ mark m.OpenParenthesis false ∷ mark m.OpenParenthesis false ∷ number 1 false ∷ word w.In false ∷ name (codes "x") false ∷ mark m.CloseParenthesis false ∷ mark m.Comma false ∷ number 2 false ∷ mark m.CloseParenthesis false ∷ mark m.Times false ∷ number 3 false ∷ mark m.Semicolon false ∷ mark m.Semicolon false ∷ mark m.CloseParenthesis false ∷ mark m.Semicolon false ∷ word w.For false ∷ mark m.OpenParenthesis false ∷ name (codes "a") false ∷ mark m.Question false ∷ number 1 false ∷ word w.In false ∷ name (codes "x") false ∷ mark m.Colon false ∷ mark m.OpenParenthesis false ∷ number 2 false ∷ word w.In false ∷ name (codes "y") false ∷ mark m.CloseParenthesis false ∷ mark m.Semicolon false ∷ mark m.Semicolon false ∷ mark m.CloseParenthesis false ∷ mark m.Semicolon false ∷ word w.For false ∷ mark m.OpenParenthesis false ∷ word w.Var false ∷ name (codes "a") false ∷ mark m.Assign false ∷ mark m.OpenParenthesis false ∷ number 1 false ∷ word w.In false ∷ name (codes "x") false ∷ mark m.CloseParenthesis false ∷ word w.In false ∷ name (codes "b") false ∷ mark m.CloseParenthesis false ∷ mark m.Semicolon false ∷ []) refl (g.source_and (g.statement (g.for false false false false false (g.expression_first (g.binary (Operation b.Multiply) false (lit≤ tt) refl (g.parenthesised false false (lit≤ tt) (g.comma false (lit≤ tt) (g.parenthesised false false (lit≤ tt) (g.binary (Operation b.In) false (lit≤ tt) refl (g.numeral true false (lit≤ tt)) (g.identifier false (lit≤ tt) refl))) (g.numeral true false (lit≤ tt)))) (g.numeral true false (lit≤ tt)))) g.absent g.absent (g.empty false))) (g.source_and (g.statement (g.for false false false false false (g.expression_first (g.conditional false false (lit≤ tt) (g.identifier false (lit≤ tt) refl) (g.binary (Operation b.In) false (lit≤ tt) refl (g.numeral true false (lit≤ tt)) (g.identifier false (lit≤ tt) refl)) (g.parenthesised false false (lit≤ tt) (g.binary (Operation b.In) false (lit≤ tt) refl (g.numeral true false (lit≤ tt)) (g.identifier false (lit≤ tt) refl))))) g.absent g.absent (g.empty false))) (g.source_and (g.statement (g.for_var_in false false false false false (g.initialised false false refl (g.parenthesised false false (lit≤ tt) (g.binary (Operation b.In) false (lit≤ tt) refl (g.numeral true false (lit≤ tt)) (g.identifier false (lit≤ tt) refl)))) (g.identifier false (lit≤ tt) refl) (g.empty false))) g.no_source))) (record { few = lit≤ tt; low = lit≤ tt; flat = lit≤ tt; closed = lit≤ tt }) refl
+header_parentheses = reads_as Source (codes "for ( ( ( 1 in x ) , 2 ) * 3 ; ; ) ; for ( a ? 1 in x : ( 2 in y ) ; ; ) ; for ( var a = ( 1 in x ) in b ) ;") (Tree.MoreStmts (Tree.For (Tree.First (Tree.Binary b.Multiply (Tree.Comma (Tree.Binary b.In (Tree.Num 1) (Tree.Ident (codes "x"))) (Tree.Num 2)) (Tree.Num 3))) Tree.NoExpr Tree.NoExpr Tree.Empty) (Tree.MoreStmts (Tree.For (Tree.First (Tree.Cond (Tree.Ident (codes "a")) (Tree.Binary b.In (Tree.Num 1) (Tree.Ident (codes "x"))) (Tree.Binary b.In (Tree.Num 2) (Tree.Ident (codes "y"))))) Tree.NoExpr Tree.NoExpr Tree.Empty) (Tree.MoreStmts (Tree.ForIn (Tree.AVar (codes "a") (Tree.AnExpr (Tree.Binary b.In (Tree.Num 1) (Tree.Ident (codes "x"))))) (Tree.Ident (codes "b")) Tree.Empty) Tree.NoStmts))) (word w.For false ∷ mark m.OpenParenthesis false ∷ mark m.OpenParenthesis false ∷ mark m.OpenParenthesis false ∷ number 1 false ∷ word w.In false ∷ name (codes "x") false ∷ mark m.CloseParenthesis false ∷ mark m.Comma false ∷ number 2 false ∷ mark m.CloseParenthesis false ∷ mark m.Times false ∷ number 3 false ∷ mark m.Semicolon false ∷ mark m.Semicolon false ∷ mark m.CloseParenthesis false ∷ mark m.Semicolon false ∷ word w.For false ∷ mark m.OpenParenthesis false ∷ name (codes "a") false ∷ mark m.Question false ∷ number 1 false ∷ word w.In false ∷ name (codes "x") false ∷ mark m.Colon false ∷ mark m.OpenParenthesis false ∷ number 2 false ∷ word w.In false ∷ name (codes "y") false ∷ mark m.CloseParenthesis false ∷ mark m.Semicolon false ∷ mark m.Semicolon false ∷ mark m.CloseParenthesis false ∷ mark m.Semicolon false ∷ word w.For false ∷ mark m.OpenParenthesis false ∷ word w.Var false ∷ name (codes "a") false ∷ mark m.Assign false ∷ mark m.OpenParenthesis false ∷ number 1 false ∷ word w.In false ∷ name (codes "x") false ∷ mark m.CloseParenthesis false ∷ word w.In false ∷ name (codes "b") false ∷ mark m.CloseParenthesis false ∷ mark m.Semicolon false ∷ []) refl (g.source_and (g.statement (g.for false false false false false (g.expression_first (g.binary (Operation b.Multiply) false (lit≤ tt) refl (g.parenthesised false false (lit≤ tt) (g.comma false (lit≤ tt) (g.parenthesised false false (lit≤ tt) (g.binary (Operation b.In) false (lit≤ tt) refl (g.numeral true false (lit≤ tt)) (g.identifier false (lit≤ tt) refl))) (g.numeral true false (lit≤ tt)))) (g.numeral true false (lit≤ tt)))) g.absent g.absent (g.empty false))) (g.source_and (g.statement (g.for false false false false false (g.expression_first (g.conditional false false (lit≤ tt) (g.identifier false (lit≤ tt) refl) (g.binary (Operation b.In) false (lit≤ tt) refl (g.numeral true false (lit≤ tt)) (g.identifier false (lit≤ tt) refl)) (g.parenthesised false false (lit≤ tt) (g.binary (Operation b.In) false (lit≤ tt) refl (g.numeral true false (lit≤ tt)) (g.identifier false (lit≤ tt) refl))))) g.absent g.absent (g.empty false))) (g.source_and (g.statement (g.for_var_in false false false false false (g.initialised false false refl (g.parenthesised false false (lit≤ tt) (g.binary (Operation b.In) false (lit≤ tt) refl (g.numeral true false (lit≤ tt)) (g.identifier false (lit≤ tt) refl)))) (g.identifier false (lit≤ tt) refl) (g.empty false))) g.no_source))) (record { few = lit≤ tt; low = lit≤ tt; flat = lit≤ tt; closed = lit≤ tt }) refl
 
-pub header_operands : Reads Source (codes "for ( ( 1 in x ) + 2 ; ; ) ; for ( ! ( 1 in x ) ; ; ) ; for ( a = ( 1 in x ) ; ; ) ; for ( ( 1 in x )? a : b ; ; ) ;") (codes "for((1 in x)+2;;);for(!(1 in x);;);for(a=(1 in x);;);for((1 in x)?a:b;;);\n")
+pub header_operands : Reads Source (codes "for ( ( 1 in x ) + 2 ; ; ) ; for ( ! ( 1 in x ) ; ; ) ; for ( a = ( 1 in x ) ; ; ) ; for ( ( 1 in x ) ? a : b ; ; ) ;") (codes "for((1 in x)+2;;);for(!(1 in x);;);for(a=(1 in x);;);for((1 in x)?a:b;;);\n")
 unfolding unicode_ident utf16_chars digits
-header_operands = reads_as Source (codes "for ( ( 1 in x ) + 2 ; ; ) ; for ( ! ( 1 in x ) ; ; ) ; for ( a = ( 1 in x ) ; ; ) ; for ( ( 1 in x )? a : b ; ; ) ;") (Tree.MoreStmts (Tree.For (Tree.First (Tree.Binary b.Add (Tree.Binary b.In (Tree.Num 1) (Tree.Ident (codes "x"))) (Tree.Num 2))) Tree.NoExpr Tree.NoExpr Tree.Empty) (Tree.MoreStmts (Tree.For (Tree.First (Tree.Prefix p.Not (Tree.Binary b.In (Tree.Num 1) (Tree.Ident (codes "x"))))) Tree.NoExpr Tree.NoExpr Tree.Empty) (Tree.MoreStmts (Tree.For (Tree.First (Tree.Assign None (Tree.Ident (codes "a")) (Tree.Binary b.In (Tree.Num 1) (Tree.Ident (codes "x"))))) Tree.NoExpr Tree.NoExpr Tree.Empty) (Tree.MoreStmts (Tree.For (Tree.First (Tree.Cond (Tree.Binary b.In (Tree.Num 1) (Tree.Ident (codes "x"))) (Tree.Ident (codes "a")) (Tree.Ident (codes "b")))) Tree.NoExpr Tree.NoExpr Tree.Empty) Tree.NoStmts)))) (word w.For false ∷ mark m.OpenParenthesis false ∷ mark m.OpenParenthesis false ∷ number 1 false ∷ word w.In false ∷ name (codes "x") false ∷ mark m.CloseParenthesis false ∷ mark m.Plus false ∷ number 2 false ∷ mark m.Semicolon false ∷ mark m.Semicolon false ∷ mark m.CloseParenthesis false ∷ mark m.Semicolon false ∷ word w.For false ∷ mark m.OpenParenthesis false ∷ mark m.Not false ∷ mark m.OpenParenthesis false ∷ number 1 false ∷ word w.In false ∷ name (codes "x") false ∷ mark m.CloseParenthesis false ∷ mark m.Semicolon false ∷ mark m.Semicolon false ∷ mark m.CloseParenthesis false ∷ mark m.Semicolon false ∷ word w.For false ∷ mark m.OpenParenthesis false ∷ name (codes "a") false ∷ mark m.Assign false ∷ mark m.OpenParenthesis false ∷ number 1 false ∷ word w.In false ∷ name (codes "x") false ∷ mark m.CloseParenthesis false ∷ mark m.Semicolon false ∷ mark m.Semicolon false ∷ mark m.CloseParenthesis false ∷ mark m.Semicolon false ∷ word w.For false ∷ mark m.OpenParenthesis false ∷ mark m.OpenParenthesis false ∷ number 1 false ∷ word w.In false ∷ name (codes "x") false ∷ mark m.CloseParenthesis false ∷ mark m.Question false ∷ name (codes "a") false ∷ mark m.Colon false ∷ name (codes "b") false ∷ mark m.Semicolon false ∷ mark m.Semicolon false ∷ mark m.CloseParenthesis false ∷ mark m.Semicolon false ∷ []) refl (g.source_and (g.statement (g.for false false false false false (g.expression_first (g.binary (Operation b.Add) false (lit≤ tt) refl (g.parenthesised false false (lit≤ tt) (g.binary (Operation b.In) false (lit≤ tt) refl (g.numeral true false (lit≤ tt)) (g.identifier false (lit≤ tt) refl))) (g.numeral true false (lit≤ tt)))) g.absent g.absent (g.empty false))) (g.source_and (g.statement (g.for false false false false false (g.expression_first (g.prefix p.Not false (lit≤ tt) refl (g.parenthesised false false (lit≤ tt) (g.binary (Operation b.In) false (lit≤ tt) refl (g.numeral true false (lit≤ tt)) (g.identifier false (lit≤ tt) refl))))) g.absent g.absent (g.empty false))) (g.source_and (g.statement (g.for false false false false false (g.expression_first (g.assign None m.Assign false (lit≤ tt) refl (g.identifier false (lit≤ tt) refl) refl (g.parenthesised false false (lit≤ tt) (g.binary (Operation b.In) false (lit≤ tt) refl (g.numeral true false (lit≤ tt)) (g.identifier false (lit≤ tt) refl))))) g.absent g.absent (g.empty false))) (g.source_and (g.statement (g.for false false false false false (g.expression_first (g.conditional false false (lit≤ tt) (g.parenthesised false false (lit≤ tt) (g.binary (Operation b.In) false (lit≤ tt) refl (g.numeral true false (lit≤ tt)) (g.identifier false (lit≤ tt) refl))) (g.identifier false (lit≤ tt) refl) (g.identifier false (lit≤ tt) refl))) g.absent g.absent (g.empty false))) g.no_source)))) (record { few = lit≤ tt; low = lit≤ tt; flat = lit≤ tt; closed = lit≤ tt }) refl
+header_operands = reads_as Source (codes "for ( ( 1 in x ) + 2 ; ; ) ; for ( ! ( 1 in x ) ; ; ) ; for ( a = ( 1 in x ) ; ; ) ; for ( ( 1 in x ) ? a : b ; ; ) ;") (Tree.MoreStmts (Tree.For (Tree.First (Tree.Binary b.Add (Tree.Binary b.In (Tree.Num 1) (Tree.Ident (codes "x"))) (Tree.Num 2))) Tree.NoExpr Tree.NoExpr Tree.Empty) (Tree.MoreStmts (Tree.For (Tree.First (Tree.Prefix p.Not (Tree.Binary b.In (Tree.Num 1) (Tree.Ident (codes "x"))))) Tree.NoExpr Tree.NoExpr Tree.Empty) (Tree.MoreStmts (Tree.For (Tree.First (Tree.Assign None (Tree.Ident (codes "a")) (Tree.Binary b.In (Tree.Num 1) (Tree.Ident (codes "x"))))) Tree.NoExpr Tree.NoExpr Tree.Empty) (Tree.MoreStmts (Tree.For (Tree.First (Tree.Cond (Tree.Binary b.In (Tree.Num 1) (Tree.Ident (codes "x"))) (Tree.Ident (codes "a")) (Tree.Ident (codes "b")))) Tree.NoExpr Tree.NoExpr Tree.Empty) Tree.NoStmts)))) (word w.For false ∷ mark m.OpenParenthesis false ∷ mark m.OpenParenthesis false ∷ number 1 false ∷ word w.In false ∷ name (codes "x") false ∷ mark m.CloseParenthesis false ∷ mark m.Plus false ∷ number 2 false ∷ mark m.Semicolon false ∷ mark m.Semicolon false ∷ mark m.CloseParenthesis false ∷ mark m.Semicolon false ∷ word w.For false ∷ mark m.OpenParenthesis false ∷ mark m.Not false ∷ mark m.OpenParenthesis false ∷ number 1 false ∷ word w.In false ∷ name (codes "x") false ∷ mark m.CloseParenthesis false ∷ mark m.Semicolon false ∷ mark m.Semicolon false ∷ mark m.CloseParenthesis false ∷ mark m.Semicolon false ∷ word w.For false ∷ mark m.OpenParenthesis false ∷ name (codes "a") false ∷ mark m.Assign false ∷ mark m.OpenParenthesis false ∷ number 1 false ∷ word w.In false ∷ name (codes "x") false ∷ mark m.CloseParenthesis false ∷ mark m.Semicolon false ∷ mark m.Semicolon false ∷ mark m.CloseParenthesis false ∷ mark m.Semicolon false ∷ word w.For false ∷ mark m.OpenParenthesis false ∷ mark m.OpenParenthesis false ∷ number 1 false ∷ word w.In false ∷ name (codes "x") false ∷ mark m.CloseParenthesis false ∷ mark m.Question false ∷ name (codes "a") false ∷ mark m.Colon false ∷ name (codes "b") false ∷ mark m.Semicolon false ∷ mark m.Semicolon false ∷ mark m.CloseParenthesis false ∷ mark m.Semicolon false ∷ []) refl (g.source_and (g.statement (g.for false false false false false (g.expression_first (g.binary (Operation b.Add) false (lit≤ tt) refl (g.parenthesised false false (lit≤ tt) (g.binary (Operation b.In) false (lit≤ tt) refl (g.numeral true false (lit≤ tt)) (g.identifier false (lit≤ tt) refl))) (g.numeral true false (lit≤ tt)))) g.absent g.absent (g.empty false))) (g.source_and (g.statement (g.for false false false false false (g.expression_first (g.prefix p.Not false (lit≤ tt) refl (g.parenthesised false false (lit≤ tt) (g.binary (Operation b.In) false (lit≤ tt) refl (g.numeral true false (lit≤ tt)) (g.identifier false (lit≤ tt) refl))))) g.absent g.absent (g.empty false))) (g.source_and (g.statement (g.for false false false false false (g.expression_first (g.assign None m.Assign false (lit≤ tt) refl (g.identifier false (lit≤ tt) refl) refl (g.parenthesised false false (lit≤ tt) (g.binary (Operation b.In) false (lit≤ tt) refl (g.numeral true false (lit≤ tt)) (g.identifier false (lit≤ tt) refl))))) g.absent g.absent (g.empty false))) (g.source_and (g.statement (g.for false false false false false (g.expression_first (g.conditional false false (lit≤ tt) (g.parenthesised false false (lit≤ tt) (g.binary (Operation b.In) false (lit≤ tt) refl (g.numeral true false (lit≤ tt)) (g.identifier false (lit≤ tt) refl))) (g.identifier false (lit≤ tt) refl) (g.identifier false (lit≤ tt) refl))) g.absent g.absent (g.empty false))) g.no_source)))) (record { few = lit≤ tt; low = lit≤ tt; flat = lit≤ tt; closed = lit≤ tt }) refl
 
 pub header_function : Reads Source (codes "for ( a = function ( ) { 1 in x ; for ( ( 2 in y ) ; ; ) ; } ; ; ) ;") (codes "for(a=function(){1 in x;for((2 in y);;);};;);\n")
 unfolding unicode_ident utf16_chars digits

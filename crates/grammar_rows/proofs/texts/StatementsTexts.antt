@@ -21,8 +21,8 @@ pub variables : Reads Source (codes "var a ; var b , c = 1 , d = e , f") (codes 
 unfolding unicode_ident utf16_chars digits
 variables = reads_as Source (codes "var a ; var b , c = 1 , d = e , f") (Tree.MoreStmts (Tree.Variables (Tree.MoreVarItems (codes "a") Tree.NoExpr Tree.NoVarItems)) (Tree.MoreStmts (Tree.Variables (Tree.MoreVarItems (codes "b") Tree.NoExpr (Tree.MoreVarItems (codes "c") (Tree.AnExpr (Tree.Num 1)) (Tree.MoreVarItems (codes "d") (Tree.AnExpr (Tree.Ident (codes "e"))) (Tree.MoreVarItems (codes "f") Tree.NoExpr Tree.NoVarItems))))) Tree.NoStmts)) (word w.Var false ∷ name (codes "a") false ∷ mark m.Semicolon false ∷ word w.Var false ∷ name (codes "b") false ∷ mark m.Comma false ∷ name (codes "c") false ∷ mark m.Assign false ∷ number 1 false ∷ mark m.Comma false ∷ name (codes "d") false ∷ mark m.Assign false ∷ name (codes "e") false ∷ mark m.Comma false ∷ name (codes "f") false ∷ []) refl (g.source_and (g.statement (g.variables false (g.last_declarator (g.bare false refl)) (e.written false))) (g.source_and (g.statement (g.variables false (g.declarator_and false (g.bare false refl) (g.declarator_and false (g.initialised false false refl (g.numeral true false (lit≤ tt))) (g.declarator_and false (g.initialised false false refl (g.identifier false (lit≤ tt) refl)) (g.last_declarator (g.bare false refl))))) (e.at_end refl))) g.no_source)) (record { few = lit≤ tt; low = lit≤ tt; flat = lit≤ tt; closed = lit≤ tt }) refl
 
-pub initialisers : Same Source (codes "var a = b = c , d = e? f : g") (codes "var a = ( b = c ) , d = ( e? f : g )")
-initialisers = same_tree Source (codes "var a = b = c , d = e? f : g") (codes "var a = ( b = c ) , d = ( e? f : g )") (Tree.MoreStmts (Tree.Variables (Tree.MoreVarItems (codes "a") (Tree.AnExpr (Tree.Assign None (Tree.Ident (codes "b")) (Tree.Ident (codes "c")))) (Tree.MoreVarItems (codes "d") (Tree.AnExpr (Tree.Cond (Tree.Ident (codes "e")) (Tree.Ident (codes "f")) (Tree.Ident (codes "g")))) Tree.NoVarItems))) Tree.NoStmts) (word w.Var false ∷ name (codes "a") false ∷ mark m.Assign false ∷ name (codes "b") false ∷ mark m.Assign false ∷ name (codes "c") false ∷ mark m.Comma false ∷ name (codes "d") false ∷ mark m.Assign false ∷ name (codes "e") false ∷ mark m.Question false ∷ name (codes "f") false ∷ mark m.Colon false ∷ name (codes "g") false ∷ []) (word w.Var false ∷ name (codes "a") false ∷ mark m.Assign false ∷ mark m.OpenParenthesis false ∷ name (codes "b") false ∷ mark m.Assign false ∷ name (codes "c") false ∷ mark m.CloseParenthesis false ∷ mark m.Comma false ∷ name (codes "d") false ∷ mark m.Assign false ∷ mark m.OpenParenthesis false ∷ name (codes "e") false ∷ mark m.Question false ∷ name (codes "f") false ∷ mark m.Colon false ∷ name (codes "g") false ∷ mark m.CloseParenthesis false ∷ []) refl refl (g.source_and (g.statement (g.variables false (g.declarator_and false (g.initialised false false refl (g.assign None m.Assign false (lit≤ tt) refl (g.identifier false (lit≤ tt) refl) refl (g.identifier false (lit≤ tt) refl))) (g.last_declarator (g.initialised false false refl (g.conditional false false (lit≤ tt) (g.identifier false (lit≤ tt) refl) (g.identifier false (lit≤ tt) refl) (g.identifier false (lit≤ tt) refl))))) (e.at_end refl))) g.no_source) (record { few = lit≤ tt; low = lit≤ tt; flat = lit≤ tt; closed = lit≤ tt }) (g.source_and (g.statement (g.variables false (g.declarator_and false (g.initialised false false refl (g.parenthesised false false (lit≤ tt) (g.assign None m.Assign false (lit≤ tt) refl (g.identifier false (lit≤ tt) refl) refl (g.identifier false (lit≤ tt) refl)))) (g.last_declarator (g.initialised false false refl (g.parenthesised false false (lit≤ tt) (g.conditional false false (lit≤ tt) (g.identifier false (lit≤ tt) refl) (g.identifier false (lit≤ tt) refl) (g.identifier false (lit≤ tt) refl)))))) (e.at_end refl))) g.no_source) (record { few = lit≤ tt; low = lit≤ tt; flat = lit≤ tt; closed = lit≤ tt })
+pub initialisers : Same Source (codes "var a = b = c , d = e ? f : g") (codes "var a = ( b = c ) , d = ( e ? f : g )")
+initialisers = same_tree Source (codes "var a = b = c , d = e ? f : g") (codes "var a = ( b = c ) , d = ( e ? f : g )") (Tree.MoreStmts (Tree.Variables (Tree.MoreVarItems (codes "a") (Tree.AnExpr (Tree.Assign None (Tree.Ident (codes "b")) (Tree.Ident (codes "c")))) (Tree.MoreVarItems (codes "d") (Tree.AnExpr (Tree.Cond (Tree.Ident (codes "e")) (Tree.Ident (codes "f")) (Tree.Ident (codes "g")))) Tree.NoVarItems))) Tree.NoStmts) (word w.Var false ∷ name (codes "a") false ∷ mark m.Assign false ∷ name (codes "b") false ∷ mark m.Assign false ∷ name (codes "c") false ∷ mark m.Comma false ∷ name (codes "d") false ∷ mark m.Assign false ∷ name (codes "e") false ∷ mark m.Question false ∷ name (codes "f") false ∷ mark m.Colon false ∷ name (codes "g") false ∷ []) (word w.Var false ∷ name (codes "a") false ∷ mark m.Assign false ∷ mark m.OpenParenthesis false ∷ name (codes "b") false ∷ mark m.Assign false ∷ name (codes "c") false ∷ mark m.CloseParenthesis false ∷ mark m.Comma false ∷ name (codes "d") false ∷ mark m.Assign false ∷ mark m.OpenParenthesis false ∷ name (codes "e") false ∷ mark m.Question false ∷ name (codes "f") false ∷ mark m.Colon false ∷ name (codes "g") false ∷ mark m.CloseParenthesis false ∷ []) refl refl (g.source_and (g.statement (g.variables false (g.declarator_and false (g.initialised false false refl (g.assign None m.Assign false (lit≤ tt) refl (g.identifier false (lit≤ tt) refl) refl (g.identifier false (lit≤ tt) refl))) (g.last_declarator (g.initialised false false refl (g.conditional false false (lit≤ tt) (g.identifier false (lit≤ tt) refl) (g.identifier false (lit≤ tt) refl) (g.identifier false (lit≤ tt) refl))))) (e.at_end refl))) g.no_source) (record { few = lit≤ tt; low = lit≤ tt; flat = lit≤ tt; closed = lit≤ tt }) (g.source_and (g.statement (g.variables false (g.declarator_and false (g.initialised false false refl (g.parenthesised false false (lit≤ tt) (g.assign None m.Assign false (lit≤ tt) refl (g.identifier false (lit≤ tt) refl) refl (g.identifier false (lit≤ tt) refl)))) (g.last_declarator (g.initialised false false refl (g.parenthesised false false (lit≤ tt) (g.conditional false false (lit≤ tt) (g.identifier false (lit≤ tt) refl) (g.identifier false (lit≤ tt) refl) (g.identifier false (lit≤ tt) refl)))))) (e.at_end refl))) g.no_source) (record { few = lit≤ tt; low = lit≤ tt; flat = lit≤ tt; closed = lit≤ tt })
 
 pub empty : Reads Source (codes ";") (codes ";\n")
 unfolding unicode_ident utf16_chars digits
