@@ -20,15 +20,4 @@ pub mod Programs
 pub mod Run
 pub mod Page
 pub mod Logs
-pub mod Writing
-pub mod Rows
-pub mod Scripts
-pub mod Pages
-pub mod WrittenScripts
-pub mod ExpressionScripts
-pub mod OperatorScripts
-pub mod StatementScripts
-pub mod FunctionScripts
-pub mod PageScripts
 pub mod Laws
-pub mod KindScripts

@@ -5,11 +5,11 @@ use Rattle.js_tree.specs.declared.tree.BinaryOp.TheVariants as op
 use Rattle.js_tree.specs.declared.tree.PrefixOp.TheVariants as prefix
 use Rattle.js_tree.specs.Tree.{Name, Expr, Stmt}
 use Rattle.js_tree.specs.Tree as tree
-use Rattle.js_machine.specs.Writing.{name, text, number, array, object, function}
-use Rattle.js_machine.specs.Writing.{returns, does, counted, telling}
-use Rattle.js_machine.specs.Writing.{to_string, value_of, a, b, o}
-use Rattle.js_machine.specs.Scripts.{dot, at}
-use Rattle.js_machine.specs.ExpressionScripts.{one, two, binary, unary, minus, nan, empty, nothing}
+use Rattle.machine_rows.specs.Writing.{name, text, number, array, object, function}
+use Rattle.machine_rows.specs.Writing.{returns, does, counted, telling}
+use Rattle.machine_rows.specs.Writing.{to_string, value_of, a, b, o}
+use Rattle.machine_rows.specs.Scripts.{dot, at}
+use Rattle.machine_rows.specs.ExpressionScripts.{one, two, binary, unary, minus, nan, empty, nothing}
 
 -- `7*6,8/2,7%-3,-7%3,5-2,1+2,"a"+1,1+"a","3"*"4",1+null,1+undefined,"a"+undefined,[1,2]+""`
 abbrev pub sums : List Expr

@@ -6,10 +6,10 @@ use Rattle.js_tree.specs.declared.tree.PrefixOp.TheVariants as prefix
 use Rattle.js_tree.specs.Tree.{Expr, Stmt, NoExpr, AnExpr, MoreVarItems, NoVarItems, NoStmt, AStmt}
 use Rattle.js_tree.specs.Tree.{NoHandler, ACatch, Target, MoreCases, NoCases, Nothing}
 use Rattle.js_tree.specs.Tree as tree
-use Rattle.js_machine.specs.Writing.{block, name, text, number, call, new, object, set, a, b}
-use Rattle.js_machine.specs.Writing.{function, blocks, declare, does, e, f, i, x}
-use Rattle.js_machine.specs.Scripts.{counts, dot, at}
-use Rattle.js_machine.specs.ExpressionScripts.{binary, unary, one, two}
+use Rattle.machine_rows.specs.Writing.{block, name, text, number, call, new, object, set, a, b}
+use Rattle.machine_rows.specs.Writing.{function, blocks, declare, does, e, f, i, x}
+use Rattle.machine_rows.specs.Scripts.{counts, dot, at}
+use Rattle.machine_rows.specs.ExpressionScripts.{binary, unary, one, two}
 
 -- ---- statements: `;` `{}` `var x;` `var x=1;` `function f(){}` `if(1);else;` `if(0);`
 

@@ -8,9 +8,9 @@ use Rattle.js_tree.specs.declared.tree.PostfixOp.TheVariants as postfix
 use Rattle.js_tree.specs.Tree.{Expr, Stmt}
 use Rattle.js_tree.specs.Tree as tree
 use Rattle.js_machine.specs.Page.{Page}
-use Rattle.js_machine.specs.Writing.{name, text, number, call, new, array, function, shows}
-use Rattle.js_machine.specs.Writing.{sets, calls, var, declare, returns, f, i, k}
-use Rattle.js_machine.specs.Scripts.{dot, at}
+use Rattle.machine_rows.specs.Writing.{name, text, number, call, new, array, function, shows}
+use Rattle.machine_rows.specs.Writing.{sets, calls, var, declare, returns, f, i, k}
+use Rattle.machine_rows.specs.Scripts.{dot, at}
 
 -- `host.on(type,function)`
 abbrev pub listens : List ℕ → Expr → Stmt

@@ -4,16 +4,16 @@ ghost use Rattle.std.specs.Prelude.{◌≡◌, ◌∷◌, [], codes, map, replic
 ghost use Rattle.js_values.specs.declared.reason.Reason.TheVariants as reason;
 ghost use Rattle.js_values.specs.declared.shown.Shown.TheVariants as shown;
 ghost use Rattle.js_machine.specs.Logs.{Ended, OutOfSteps, Stopped, beats_of, ending_of, marks_of};
-ghost use Rattle.js_machine.specs.ExpressionScripts.{empty};
+ghost use Rattle.machine_rows.specs.ExpressionScripts.{empty};
 ghost use Rattle.js_machine.specs.Page.{original};
 ghost use Rattle.js_tree.specs.Tree.{Throw};
-ghost use Rattle.js_machine.specs.PageScripts as small;
-ghost use Rattle.js_machine.specs.PageScripts.{stops};
-ghost use Rattle.js_machine.specs.Pages as pages;
-ghost use Rattle.js_machine.specs.Rows.{ample, caught, end_of, ended, lines, number, numbers, out};
-ghost use Rattle.js_machine.specs.Rows.{of_page, page, report, run_of, text, texts, truth};
+ghost use Rattle.machine_rows.specs.PageScripts as small;
+ghost use Rattle.machine_rows.specs.PageScripts.{stops};
+ghost use Rattle.machine_rows.specs.Pages as pages;
+ghost use Rattle.machine_rows.specs.Rows.{ample, caught, end_of, ended, lines, number, numbers, out};
+ghost use Rattle.machine_rows.specs.Rows.{of_page, page, report, run_of, text, texts, truth};
 ghost use Rattle.js_machine.specs.Run.{Call, Entry, Event, Idle, Uncaught};
-ghost use Rattle.js_machine.specs.Writing as tree;
+ghost use Rattle.machine_rows.specs.Writing as tree;
 
 /// Replies, events and listeners.
 pub fn events()

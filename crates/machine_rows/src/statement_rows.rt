@@ -4,12 +4,12 @@
 ghost use Rattle.std.specs.Prelude.{◌≡◌, ◌∷◌, [], codes, map};
 ghost use Rattle.js_values.specs.declared.reason.Reason.TheVariants as reason;
 ghost use Rattle.js_values.specs.declared.shown.Shown.TheVariants as shown;
-ghost use Rattle.js_machine.specs.ExpressionScripts.{empty, one};
+ghost use Rattle.machine_rows.specs.ExpressionScripts.{empty, one};
 ghost use Rattle.js_machine.specs.Logs.{Ended, Stopped, beats_of};
-ghost use Rattle.js_machine.specs.Rows.{caught, end_of, lines, number, numbers, out, run_of, text};
-ghost use Rattle.js_machine.specs.Rows.{texts};
-ghost use Rattle.js_machine.specs.StatementScripts as small;
-ghost use Rattle.js_machine.specs.Writing as tree;
+ghost use Rattle.machine_rows.specs.Rows.{caught, end_of, lines, number, numbers, out, run_of, text};
+ghost use Rattle.machine_rows.specs.Rows.{texts};
+ghost use Rattle.machine_rows.specs.StatementScripts as small;
+ghost use Rattle.machine_rows.specs.Writing as tree;
 
 /// Blocks, variables and conditions.
 pub fn plain_statements()

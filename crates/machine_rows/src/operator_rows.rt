@@ -5,11 +5,11 @@ ghost use Rattle.std.specs.Prelude.{◌≡◌, ◌∷◌, [], codes, true, false
 ghost use Rattle.js_tree.specs.declared.tree.BinaryOp.TheVariants as op;
 ghost use Rattle.js_values.specs.declared.number.Num.TheVariants.{NaN};
 ghost use Rattle.js_values.specs.declared.shown.Shown.TheVariants as shown;
-ghost use Rattle.js_machine.specs.ExpressionScripts.{binary, empty, one, nothing};
-ghost use Rattle.js_machine.specs.OperatorScripts as small;
-ghost use Rattle.js_machine.specs.Rows.{behind, caught, minus, number, out, text, texts, truth};
-ghost use Rattle.js_machine.specs.Rows.{values};
-ghost use Rattle.js_machine.specs.Writing as tree;
+ghost use Rattle.machine_rows.specs.ExpressionScripts.{binary, empty, one, nothing};
+ghost use Rattle.machine_rows.specs.OperatorScripts as small;
+ghost use Rattle.machine_rows.specs.Rows.{behind, caught, minus, number, out, text, texts, truth};
+ghost use Rattle.machine_rows.specs.Rows.{values};
+ghost use Rattle.machine_rows.specs.Writing as tree;
 
 /// Sums, products, shifts and bits.
 pub fn numbers_and_texts()

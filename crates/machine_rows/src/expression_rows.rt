@@ -4,11 +4,11 @@
 ghost use Rattle.std.specs.Prelude.{◌≡◌, ◌∷◌, [], codes, true, false, replicate, ◌++◌};
 ghost use Rattle.js_values.specs.declared.number.Num.TheVariants.{NaN};
 ghost use Rattle.js_values.specs.declared.shown.Shown.TheVariants as shown;
-ghost use Rattle.js_machine.specs.ExpressionScripts as small;
-ghost use Rattle.js_machine.specs.Rows.{behind, caught, lines, minus, number, numbers, out, text};
-ghost use Rattle.js_machine.specs.Rows.{texts, truth, values};
-ghost use Rattle.js_machine.specs.StatementScripts as statement;
-ghost use Rattle.js_machine.specs.Writing as tree;
+ghost use Rattle.machine_rows.specs.ExpressionScripts as small;
+ghost use Rattle.machine_rows.specs.Rows.{behind, caught, lines, minus, number, numbers, out, text};
+ghost use Rattle.machine_rows.specs.Rows.{texts, truth, values};
+ghost use Rattle.machine_rows.specs.StatementScripts as statement;
+ghost use Rattle.machine_rows.specs.Writing as tree;
 
 /// Primary expressions.
 pub fn primary_expressions()

@@ -4,15 +4,15 @@
 ghost use Rattle.std.specs.Prelude.{◌≡◌, ◌∷◌, [], codes, true, false, map, replicate};
 ghost use Rattle.js_values.specs.declared.reason.Reason.TheVariants as reason;
 ghost use Rattle.js_values.specs.declared.shown.Shown.TheVariants as shown;
-ghost use Rattle.js_machine.specs.ExpressionScripts.{empty, nothing, one};
-ghost use Rattle.js_machine.specs.FunctionScripts as small;
+ghost use Rattle.machine_rows.specs.ExpressionScripts.{empty, nothing, one};
+ghost use Rattle.machine_rows.specs.FunctionScripts as small;
 ghost use Rattle.js_machine.specs.Logs.{Ended, Stopped, marks_of, seen};
 ghost use Rattle.js_machine.specs.Page.{original};
-ghost use Rattle.js_machine.specs.Rows.{ample, behind, caught, end_of, lines, number, numbers, out};
-ghost use Rattle.js_machine.specs.Rows.{page, run_of, text, texts, truth, values};
+ghost use Rattle.machine_rows.specs.Rows.{ample, behind, caught, end_of, lines, number, numbers, out};
+ghost use Rattle.machine_rows.specs.Rows.{page, run_of, text, texts, truth, values};
 ghost use Rattle.js_machine.specs.Run.{Entry, Idle, Used};
-ghost use Rattle.js_machine.specs.Scripts.{dot};
-ghost use Rattle.js_machine.specs.Writing as tree;
+ghost use Rattle.machine_rows.specs.Scripts.{dot};
+ghost use Rattle.machine_rows.specs.Writing as tree;
 
 /// What an entry binds, in order.
 pub fn bindings()

@@ -8,9 +8,9 @@ use Rattle.js_tree.specs.Tree.{Name, Expr, Stmt, Code, NoExpr, AnExpr, NoStmt, A
 use Rattle.js_tree.specs.Tree.{ACatch, Nothing, Vars, First, AVar, Target, MoreVarItems, NoVarItems}
 use Rattle.js_tree.specs.Tree.{MoreCases, NoCases}
 use Rattle.js_tree.specs.Tree as tree
-use Rattle.js_machine.specs.Writing.{block, name, text, number, call, new, array, object}
-use Rattle.js_machine.specs.Writing.{function, shows, sets, calls, blocks, var, declare, returns}
-use Rattle.js_machine.specs.Writing.{a, b, e, f, g, i, k, o, x}
+use Rattle.machine_rows.specs.Writing.{block, name, text, number, call, new, array, object}
+use Rattle.machine_rows.specs.Writing.{function, shows, sets, calls, blocks, var, declare, returns}
+use Rattle.machine_rows.specs.Writing.{a, b, e, f, g, i, k, o, x}
 
 -- ---- parts that come again
 

@@ -7,11 +7,11 @@ use Rattle.js_tree.specs.declared.tree.PrefixOp.{PrefixOp}
 use Rattle.js_tree.specs.declared.tree.PrefixOp.TheVariants as prefix
 use Rattle.js_tree.specs.Tree.{Name, Expr, Stmt, NoExpr, AnExpr, MoreElements, NoElements}
 use Rattle.js_tree.specs.Tree as tree
-use Rattle.js_machine.specs.Writing.{name, text, number, call, new, array, object, set, out}
-use Rattle.js_machine.specs.Writing.{function, shows, sets, calls, var, declare, returns, does}
-use Rattle.js_machine.specs.Writing.{spelled}
-use Rattle.js_machine.specs.Writing.{a, b, e, f, g, i, k, o, x}
-use Rattle.js_machine.specs.Scripts.{dot, at}
+use Rattle.machine_rows.specs.Writing.{name, text, number, call, new, array, object, set, out}
+use Rattle.machine_rows.specs.Writing.{function, shows, sets, calls, var, declare, returns, does}
+use Rattle.machine_rows.specs.Writing.{spelled}
+use Rattle.machine_rows.specs.Writing.{a, b, e, f, g, i, k, o, x}
+use Rattle.machine_rows.specs.Scripts.{dot, at}
 
 abbrev pub one : Expr
 one = number 1

@@ -8,13 +8,13 @@ use Rattle.js_tree.specs.declared.tree.PrefixOp.TheVariants as prefix
 use Rattle.js_tree.specs.Tree.{Name, Expr, Stmt}
 use Rattle.js_tree.specs.Tree as tree
 use Rattle.js_machine.specs.Page.{Page}
-use Rattle.js_machine.specs.Pages.{listens}
-use Rattle.js_machine.specs.Writing.{name, text, number, call, new}
-use Rattle.js_machine.specs.Writing.{function, shows, sets, calls, var}
-use Rattle.js_machine.specs.Writing.{does, spelled, a, b, k, o, x}
-use Rattle.js_machine.specs.Scripts.{dot, at}
-use Rattle.js_machine.specs.ExpressionScripts.{binary, unary, one, two, empty}
-use Rattle.js_machine.specs.StatementScripts.{says, tells, at_last}
+use Rattle.machine_rows.specs.Pages.{listens}
+use Rattle.machine_rows.specs.Writing.{name, text, number, call, new}
+use Rattle.machine_rows.specs.Writing.{function, shows, sets, calls, var}
+use Rattle.machine_rows.specs.Writing.{does, spelled, a, b, k, o, x}
+use Rattle.machine_rows.specs.Scripts.{dot, at}
+use Rattle.machine_rows.specs.ExpressionScripts.{binary, unary, one, two, empty}
+use Rattle.machine_rows.specs.StatementScripts.{says, tells, at_last}
 
 -- ---- events
 

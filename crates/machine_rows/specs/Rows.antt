@@ -8,7 +8,7 @@ use Rattle.js_tree.specs.Tree.{Expr, Stmt}
 use Rattle.js_machine.specs.Run.{Mark, Trace, Call}
 use Rattle.js_machine.specs.Page.{Page, original}
 use Rattle.js_machine.specs.Logs.{Ending, Ended, marks_of, ending_of, seen, steps_of, beats_of}
-use Rattle.js_machine.specs.Writing.{block, shows, tries}
+use Rattle.machine_rows.specs.Writing.{block, shows, tries}
 
 -- ---- pages
 

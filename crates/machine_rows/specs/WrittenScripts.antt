@@ -10,13 +10,13 @@ use Rattle.js_tree.specs.Tree.{NoVarItems, MoreVarItems, VarItems}
 use Rattle.js_tree.specs.Tree as tree
 use Rattle.js_machine.specs.Logs.{marks_of, seen}
 use Rattle.js_machine.specs.Page.{written}
-use Rattle.js_machine.specs.Pages.{listens}
-use Rattle.js_machine.specs.Rows.{page, ample}
+use Rattle.machine_rows.specs.Pages.{listens}
+use Rattle.machine_rows.specs.Rows.{page, ample}
 use Rattle.js_machine.specs.Run.{Mark, Trace}
-use Rattle.js_machine.specs.Scripts as script
-use Rattle.js_machine.specs.Scripts.{arguments, dot, at}
-use Rattle.js_machine.specs.Writing.{block, name, text, number, call, shows, sets, calls}
-use Rattle.js_machine.specs.Writing.{blocks, var, returns, a, b, e, f, g, k, x}
+use Rattle.machine_rows.specs.Scripts as script
+use Rattle.machine_rows.specs.Scripts.{arguments, dot, at}
+use Rattle.machine_rows.specs.Writing.{block, name, text, number, call, shows, sets, calls}
+use Rattle.machine_rows.specs.Writing.{blocks, var, returns, a, b, e, f, g, k, x}
 
 -- ---- stubs
 

@@ -6,12 +6,12 @@ use Rattle.js_tree.specs.declared.tree.PrefixOp.TheVariants as prefix
 use Rattle.js_tree.specs.Tree.{Name, Expr, Stmt, NoExpr, AnExpr, MoreVarItems, NoVarItems, NoStmt}
 use Rattle.js_tree.specs.Tree.{AStmt, NoHandler, ACatch, AVar, Target, MoreCases, NoCases, Nothing}
 use Rattle.js_tree.specs.Tree as tree
-use Rattle.js_machine.specs.Writing.{block, name, text, number, call, object, out, b}
-use Rattle.js_machine.specs.Writing.{shows, sets, blocks, var, declare, returns}
-use Rattle.js_machine.specs.Writing.{does, a, e, f, i, k, o, x}
-use Rattle.js_machine.specs.Writing.{spelled}
-use Rattle.js_machine.specs.Scripts.{counts, dot, at, visits}
-use Rattle.js_machine.specs.ExpressionScripts.{binary, unary, one, two, empty}
+use Rattle.machine_rows.specs.Writing.{block, name, text, number, call, object, out, b}
+use Rattle.machine_rows.specs.Writing.{shows, sets, blocks, var, declare, returns}
+use Rattle.machine_rows.specs.Writing.{does, a, e, f, i, k, o, x}
+use Rattle.machine_rows.specs.Writing.{spelled}
+use Rattle.machine_rows.specs.Scripts.{counts, dot, at, visits}
+use Rattle.machine_rows.specs.ExpressionScripts.{binary, unary, one, two, empty}
 
 abbrev pub says : Name → Stmt
 says x = shows (text x ∷ [])

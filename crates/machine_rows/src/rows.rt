@@ -7,14 +7,14 @@ ghost use Rattle.js_values.specs.declared.reason.Reason.TheVariants as reason;
 ghost use Rattle.js_values.specs.declared.shown.Shown.TheVariants as shown;
 ghost use Rattle.js_machine.specs.Logs.{OutOfSteps, Stopped, log_of, marks_of, uses_of};
 ghost use Rattle.js_machine.specs.Page.{original};
-ghost use Rattle.js_machine.specs.Pages as page;
-ghost use Rattle.js_machine.specs.Rows.{ended, lines, minus, number, numbers, out, report, run_of};
-ghost use Rattle.js_machine.specs.Rows.{bare_page, of_page, text, texts, under};
+ghost use Rattle.machine_rows.specs.Pages as page;
+ghost use Rattle.machine_rows.specs.Rows.{ended, lines, minus, number, numbers, out, report, run_of};
+ghost use Rattle.machine_rows.specs.Rows.{bare_page, of_page, text, texts, under};
 ghost use Rattle.js_machine.specs.Run.{Entry, Event, Idle, Uncaught};
 ghost use Rattle.js_machine.specs.Run as run;
 ghost use Rattle.js_tree.specs.Tree.{Used};
-ghost use Rattle.js_machine.specs.Scripts as script;
-ghost use Rattle.js_machine.specs.Writing as tree;
+ghost use Rattle.machine_rows.specs.Scripts as script;
+ghost use Rattle.machine_rows.specs.Writing as tree;
 
 /// Scripts alone.
 pub fn worked_scripts()

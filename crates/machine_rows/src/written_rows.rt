@@ -6,13 +6,13 @@ ghost use Rattle.js_values.specs.declared.shown.Shown.TheVariants as shown;
 ghost use Rattle.js_machine.specs.Logs.{NoEntry};
 ghost use Rattle.js_tree.specs.Tree.{Empty};
 ghost use Rattle.js_machine.specs.Page.{written};
-ghost use Rattle.js_machine.specs.Pages as page;
-ghost use Rattle.js_machine.specs.Rows.{ample, ended, number, numbers, out, report, text, texts};
+ghost use Rattle.machine_rows.specs.Pages as page;
+ghost use Rattle.machine_rows.specs.Rows.{ample, ended, number, numbers, out, report, text, texts};
 ghost use Rattle.js_machine.specs.Run.{Entry, Event, Idle, Need};
-ghost use Rattle.js_machine.specs.Scripts as script;
-ghost use Rattle.js_machine.specs.WrittenScripts as form;
-ghost use Rattle.js_machine.specs.WrittenScripts.{written_lines, written_run};
-ghost use Rattle.js_machine.specs.Writing as tree;
+ghost use Rattle.machine_rows.specs.Scripts as script;
+ghost use Rattle.machine_rows.specs.WrittenScripts as form;
+ghost use Rattle.machine_rows.specs.WrittenScripts.{written_lines, written_run};
+ghost use Rattle.machine_rows.specs.Writing as tree;
 
 /// Marks and steps of written scripts. A late function that is needed has no beat and no entry of
 /// its own.

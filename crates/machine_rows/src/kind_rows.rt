@@ -2,9 +2,9 @@
 //! steps small scripts take. The entry of the script takes the first one.
 
 ghost use Rattle.std.specs.Prelude.{◌≡◌, ◌∷◌, [], map};
-ghost use Rattle.js_machine.specs.KindScripts as kind;
+ghost use Rattle.machine_rows.specs.KindScripts as kind;
 ghost use Rattle.js_machine.specs.Logs.{steps_of};
-ghost use Rattle.js_machine.specs.Rows.{run_of};
+ghost use Rattle.machine_rows.specs.Rows.{run_of};
 
 /// Statements, each alone.
 pub fn steps_of_statements()

@@ -6,11 +6,11 @@ use Rattle.js_tree.specs.declared.tree.Role.TheVariants.{Plain}
 use Rattle.js_tree.specs.Tree.{Name, Expr, Stmt, Code, NoExpr, MoreVarItems, NoVarItems, NoStmt}
 use Rattle.js_tree.specs.Tree.{ACatch}
 use Rattle.js_tree.specs.Tree as tree
-use Rattle.js_machine.specs.Writing.{block, name, text, number, call, new, array, object}
-use Rattle.js_machine.specs.Writing.{function, shows, sets, calls, blocks, var, declare, returns}
-use Rattle.js_machine.specs.Writing.{does, counted, spelled, a, b, e, f, k, o, x}
-use Rattle.js_machine.specs.Scripts.{arguments, dot, at, visits}
-use Rattle.js_machine.specs.ExpressionScripts.{binary, unary, one, two, empty, same, minus}
+use Rattle.machine_rows.specs.Writing.{block, name, text, number, call, new, array, object}
+use Rattle.machine_rows.specs.Writing.{function, shows, sets, calls, blocks, var, declare, returns}
+use Rattle.machine_rows.specs.Writing.{does, counted, spelled, a, b, e, f, k, o, x}
+use Rattle.machine_rows.specs.Scripts.{arguments, dot, at, visits}
+use Rattle.machine_rows.specs.ExpressionScripts.{binary, unary, one, two, empty, same, minus}
 
 -- `var x;`
 abbrev pub variable : Name → Stmt

@@ -1,0 +1,11 @@
+pub mod Writing
+pub mod Rows
+pub mod Scripts
+pub mod Pages
+pub mod WrittenScripts
+pub mod ExpressionScripts
+pub mod OperatorScripts
+pub mod StatementScripts
+pub mod FunctionScripts
+pub mod PageScripts
+pub mod KindScripts
