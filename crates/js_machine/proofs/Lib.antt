@@ -3,3 +3,4 @@ pub mod Growing
 pub mod Joining
 pub mod Pages
 pub mod Lists
+pub mod fitting

@@ -21,3 +21,5 @@ pub mod Run
 pub mod Page
 pub mod Logs
 pub mod Laws
+pub mod Reachable
+pub mod KindScripts

@@ -1,6 +1,7 @@
 //! Laws over the definitions: these calls do nothing, and each says a law of all runs.
 
 ghost use Rattle.js_machine.specs.Laws as law;
+ghost use Rattle.js_machine.specs.Reachable as reachable;
 
 /// Steps never fall along a run, and never pass its budget. A run is out of steps only when all of
 /// them are taken.
@@ -38,4 +39,12 @@ pub fn lists_are_applied()
 /// A text of more than 2^26 units stops the run.
 pub fn long_texts_stop()
     ensures { law.LongTextsStop }
+{}
+
+/// In every state that a run reaches, prototypes and parents were made before, each number is that
+/// of an object or a scope that is there, and no value is Function.prototype; nor is one that a
+/// node gives, returns or throws.
+pub fn reached_states_keep()
+    ensures pages { reachable.PagesKeep }
+    ensures nodes { reachable.NodesKeep }
 {}

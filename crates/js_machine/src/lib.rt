@@ -9,6 +9,6 @@
 mod laws;
 
 pub use laws::{
-    lists_are_applied, long_texts_stop, nodes_have_parts, pages_grow, pages_rise, runs_grow,
-    steps_rise,
+    lists_are_applied, long_texts_stop, nodes_have_parts, pages_grow, pages_rise,
+    reached_states_keep, runs_grow, steps_rise,
 };
