@@ -1,3 +1,15 @@
 pub mod Lists
 pub mod Growth
 pub mod Family
+pub mod Frames
+pub mod References
+pub mod Conversions
+pub mod natives
+pub mod Embed
+pub mod Functions
+pub mod Primary
+pub mod Operators
+pub mod Calls
+pub mod Unary
+pub mod Expressions
+pub mod Variables

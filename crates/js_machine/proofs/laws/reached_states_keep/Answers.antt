@@ -1,5 +1,6 @@
 use Rattle.js_machine.proofs.laws.reached_states_keep.Goals as goal
-use Rattle.js_machine.proofs.fitting.Family.{later_program}
+use Rattle.js_machine.proofs.fitting.Expressions.{expression_fits}
+use Rattle.js_machine.proofs.fitting.Variables.{variables_fit}
 
 pub returns : goal.returns
 returns c = ?

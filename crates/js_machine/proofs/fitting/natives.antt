@@ -1,0 +1,10 @@
+pub mod Family
+pub mod Convert
+pub mod Objects
+pub mod Arrays
+pub mod Moves
+pub mod Strings
+pub mod Numbers
+pub mod Errors
+pub mod Globals
+pub mod Natives
