@@ -13,3 +13,10 @@ pub mod Calls
 pub mod Unary
 pub mod Expressions
 pub mod Variables
+pub mod Loops
+pub mod Statements
+pub mod Applying
+pub mod Entries
+pub mod Heap
+pub mod Scopes
+pub mod Bound

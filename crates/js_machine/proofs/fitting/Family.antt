@@ -97,7 +97,7 @@ OnAll A w k = (v : Counts) → Grows w v → (a : A) → ProgramFits v (k a)
 
 -- ---- what waits
 
-pub StackFits : Counts → List (Outcome → Program) → Type 0
+abbrev pub StackFits : Counts → List (Outcome → Program) → Type 0
 StackFits w ks = Each (OnOutcomes w) ks
 
 -- ---- a program that fits does so in every later world
