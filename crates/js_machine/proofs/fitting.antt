@@ -20,3 +20,6 @@ pub mod Entries
 pub mod Heap
 pub mod Scopes
 pub mod Bound
+pub mod States
+pub mod Runs
+pub mod Start

@@ -39,6 +39,9 @@ throws_fits prototype le = asks.make (new_object_fits class.Error (started (numb
 pub type_error_fits : {w : Counts} → ProgramFits w throws_type_error
 type_error_fits = throws_fits built.TypeErrorPrototype (omega arith)
 
+pub type_error_object_fits : {w : Counts} → ObjectFits w (error_object built.TypeErrorPrototype)
+type_error_object_fits = new_object_fits class.Error (started (number_of built.TypeErrorPrototype) (omega arith))
+
 pub reference_error_fits : {w : Counts} → ProgramFits w throws_reference_error
 reference_error_fits = throws_fits built.ReferenceErrorPrototype (omega arith)
 

@@ -1,7 +1,6 @@
 use Rattle.js_machine.proofs.laws.reached_states_keep.Goals as goal
-use Rattle.js_machine.proofs.fitting.Entries.{node_fits}
-use Rattle.js_machine.proofs.fitting.Bound.{entry_binds}
-use Rattle.js_machine.proofs.fitting.Variables.{variables_fit}
+use Rattle.js_machine.proofs.fitting.Runs.{nodes_keep}
+use Rattle.js_machine.proofs.fitting.Start.{pages_keep}
 
 pub returns : goal.returns
-returns c = ?
+returns c = record { pages = pages_keep; nodes = nodes_keep }
