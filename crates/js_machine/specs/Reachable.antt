@@ -20,8 +20,7 @@ use Rattle.js_tree.specs.Tree.{Func, Script}
 use Rattle.js_machine.specs.Asks.{Node, Env, Outcome, Gives, Ends}
 use Rattle.js_machine.specs.Laws.{mean}
 use Rattle.js_machine.specs.Logs.{last_state}
-use Rattle.js_machine.specs.Page.{Page, page_run}
-use Rattle.js_machine.specs.Run as run
+use Rattle.js_machine.specs.Page.{Page, state_at_start, script_env, page_run}
 use Rattle.js_machine.specs.Run.{World, Mark, Trace, Say, End, Stopped, NoEntry, OutOfSteps}
 use Rattle.js_machine.specs.State.{Body, OfScript, OfHost, State}
 
@@ -56,7 +55,8 @@ pub record IsInReach (here : Counts) (o : ℕ) : Type 0 where
 pub record IsScope (here : Counts) (scope : ℕ) : Type 0 where
   pub is : scope < here.scopes
 
--- ---- values, and what has them
+-- ---- what fits here: the objects and scopes that it names are there, and no value in it is
+-- Function.prototype
 
 pub data ValueFits (here : Counts) : Value → Type 0 where
   undefined : ValueFits here value.Undefined
@@ -156,10 +156,11 @@ pub data KeepsToTheEnd : Trace → Type 0 where
 abbrev pub RepliesArePrimitive : List (Name × List Value) → Type 0
 RepliesArePrimitive replies = Each (λ r. Each IsPrimitive r.1) replies
 
+-- nor is the value of an event
 abbrev pub EventsArePrimitive : List (Name × Value) → Type 0
 EventsArePrimitive events = Each (λ e. IsPrimitive e.1) events
 
--- of a page, original or written, under any number of steps: so in each state in which a step is due
+-- of a page, original or written, under any number of steps: so in each state in which one is due
 abbrev pub PagesKeep : Type 0
 PagesKeep =
     (entries : List (ℕ × Func)) (all : List Script) (page : Page) (n : ℕ)
@@ -172,3 +173,8 @@ NodesKeep =
     (world : World) (node : Node) (env : Env) (s : State) (n : ℕ)
     → RepliesArePrimitive world.replies
     → (keeps : Keeps s) → EnvFits keeps.here env → KeepsToTheEnd (mean world node env s n)
+
+-- so do the scripts of a page, which begin in such a state
+abbrev pub ScriptsBegin : Type 0
+ScriptsBegin =
+    (host : List Name) → (keeps : Keeps (state_at_start host)) × EnvFits keeps.here script_env

@@ -47,4 +47,5 @@ pub fn long_texts_stop()
 pub fn reached_states_keep()
     ensures pages { reachable.PagesKeep }
     ensures nodes { reachable.NodesKeep }
+    ensures scripts { reachable.ScriptsBegin }
 {}

@@ -1,5 +1,5 @@
 -- `call` and `apply`.
-use Rattle.std.proofs.Common.{ℕ, zero, suc, List, [], ◌∷◌, ◌++◌}
+use Rattle.std.proofs.Common.{ℕ, zero, suc, List, []}
 use Rattle.js_values.specs.declared.value.Value.{Value}
 use Rattle.js_values.specs.Integers.{uint32_of}
 use Rattle.object_heap.specs.declared.object.Class.{Class}
@@ -11,7 +11,7 @@ use Rattle.js_machine.specs.Kinds.{is_function, class_by}
 use Rattle.js_machine.specs.Reachable as fits
 use Rattle.js_machine.specs.Reachable.{Each, Counts, IsInReach, ValueFits}
 use Rattle.js_machine.proofs.fitting.Lists.{each_joined}
-use Rattle.js_machine.proofs.fitting.Growth.{Grows, stays, grows_on, is_there, later_reach, later_value, later_values}
+use Rattle.js_machine.proofs.fitting.Growth.{stays, grows_on, is_there, later_reach, later_value, later_values}
 use Rattle.js_machine.proofs.fitting.Family as asks
 use Rattle.js_machine.proofs.fitting.Family.{ProgramFits, OnLists, later_program}
 use Rattle.js_machine.proofs.fitting.Frames.{if_fits, all_fit}

@@ -1,27 +1,26 @@
 -- Function objects, the object of `new`, and what an entry binds.
-use Rattle.std.proofs.Common.{◌≡◌, ℕ, zero, suc, ◌≤◌, Bool, true, false, List, [], ◌∷◌, ◌++◌, length, refl, sym, ◌∙◌, ap, arith}
-use Rattle.std.specs.Prelude.{Option, Some, None, if◌then◌else◌, take, nat_lt}
+use Rattle.std.proofs.Common.{◌≡◌, ℕ, suc, Bool, true, false, List, [], ◌∷◌, ◌++◌, length, refl, sym, ◌∙◌, ap, arith}
+use Rattle.std.specs.Prelude.{Option, Some, None, if◌then◌else◌, nat_lt}
 use Rattle.js_values.specs.declared.value.Value.{Value}
 use Rattle.object_heap.specs.declared.built_in.BuiltIn.TheVariants as built
 use Rattle.object_heap.specs.declared.object.Class.TheVariants as class
 use Rattle.object_heap.specs.BuiltIns.{number_of}
 use Rattle.object_heap.specs.Changes.{holding, hidden_only, sharing}
-use Rattle.object_heap.specs.Get.{get}
 use Rattle.object_heap.specs.Names.{Name, decimal, prototype_name}
-use Rattle.object_heap.specs.Objects.{Slot, Property, Object, Heap}
-use Rattle.scope_arena.specs.Scopes.{Scopes, entered, written_at}
+use Rattle.object_heap.specs.Objects.{Slot, Property, Heap}
+use Rattle.scope_arena.specs.Scopes.{Scopes}
 use Rattle.js_tree.specs.Tree.{Func, Code, Stmts}
 use Rattle.js_calls.specs.Construct.{prototype_for, prototype_in, constructed}
 use Rattle.js_calls.specs.Declared.{functions_of}
-use Rattle.js_calls.specs.Entry.{Entered, scope_names, index_property, index_properties, arguments_object, with_values, named, named_if_any, with_formals, with_arguments, with_declared, with_all_declared, entry_of}
-use Rattle.js_calls.specs.FunctionObjects.{the_object, function_object, prototype_object, with_function}
+use Rattle.js_calls.specs.Entry.{Entered, scope_names, index_properties, arguments_object, with_values, named_if_any, with_arguments, with_declared, with_all_declared, entry_of}
+use Rattle.js_calls.specs.FunctionObjects.{function_object, prototype_object, with_function}
 use Rattle.js_calls.proofs.AfterEntry.{keep_order}
 use Rattle.js_machine.specs.Reachable as fits
 use Rattle.js_machine.specs.Reachable.{Each, IfAny, Counts, IsObject, IsInReach, IsScope, ValueFits, SlotFits, PropertyFits, ObjectFits, HeapFits, ScopesFit}
 use Rattle.js_machine.proofs.fitting.Lists.{each_joined, each_taken}
-use Rattle.js_machine.proofs.fitting.Growth.{Grows, stays, grows_on, one_object, one_scope, object_grows, scope_grows, new_object, new_scope, started, is_there, later_object, later_reach, later_scope, later_values, later_reaches, later_contents}
+use Rattle.js_machine.proofs.fitting.Growth.{Grows, grows_on, one_object, one_scope, object_grows, scope_grows, new_object, new_scope, started, is_there, later_reach, later_scope, later_values, later_reaches, later_contents}
 use Rattle.js_machine.proofs.fitting.References.{new_object_fits}
-use Rattle.js_machine.proofs.fitting.Heap.{get_slot_fits, make_heap, same_heap, length_more}
+use Rattle.js_machine.proofs.fitting.Heap.{get_slot_fits, make_heap, same_heap}
 use Rattle.js_machine.proofs.fitting.Scopes.{write_scopes, name_scopes, enter_scopes, same_scopes}
 
 -- ---- the object of `new`

@@ -1,19 +1,18 @@
 -- Member access, calls and `new`.
-use Rattle.std.proofs.Common.{ℕ, List, [], ◌∷◌, ◌++◌}
+use Rattle.std.proofs.Common.{ℕ, List}
 use Rattle.js_values.specs.declared.value.Value.{Value}
-use Rattle.js_values.specs.declared.value.Value.TheVariants as value
 use Rattle.object_heap.specs.Names.{Name}
 use Rattle.js_calls.specs.Construct.{result_of}
 use Rattle.js_tree.specs.Tree.{Expr, Exprs, NoExprs, MoreExprs}
 use Rattle.js_tree.specs.Tree as tree
 use Rattle.js_machine.specs.Frames.{value_of}
 use Rattle.js_machine.specs.Asks.{Program, Env, Kind, NotObject, NotFunction, ScriptFunction, NativeFunction, HostFunction}
-use Rattle.js_machine.specs.Calls.{dot, index, reference, arguments, base_of, call, result_or, after_construction, construct_script, construct, construct_value, new, read}
+use Rattle.js_machine.specs.Calls.{dot, index, reference, arguments, base_of, call, after_construction, construct_script, construct, construct_value, new, read}
 use Rattle.js_machine.specs.References.{Reference, NoReference}
 use Rattle.js_machine.specs.Reachable as fits
 use Rattle.js_machine.specs.Reachable.{Each, Counts, IsInReach, ValueFits, EnvFits}
 use Rattle.js_machine.proofs.fitting.Lists.{each_joined}
-use Rattle.js_machine.proofs.fitting.Growth.{Grows, stays, grows_on, is_there, later_reach, later_value, later_values, later_env}
+use Rattle.js_machine.proofs.fitting.Growth.{stays, grows_on, is_there, later_reach, later_value, later_values, later_env}
 use Rattle.js_machine.proofs.fitting.Family as asks
 use Rattle.js_machine.proofs.fitting.Family.{ProgramFits, OnOutcomes, OnLists, later_program}
 use Rattle.js_machine.proofs.fitting.Frames.{gives_fits, on_value_fits, value_of_fits, all_fit}

@@ -10,10 +10,9 @@ use Rattle.js_values.specs.Values as values
 use Rattle.object_heap.specs.Names.{Name, is_reserved}
 use Rattle.js_machine.specs.Asks.{Program}
 use Rattle.js_machine.specs.Conversions.{or_stop, text_or_stop, Hint, HintString, HintNumber, on_primitive, by_result, by_method, to_string_name, value_of_name, default_value, to_primitive, primitive_number, to_number, primitive_text, to_text, to_object, to_name}
-use Rattle.js_machine.specs.References.{throws_type_error}
 use Rattle.js_machine.specs.Reachable as fits
 use Rattle.js_machine.specs.Reachable.{Counts, IsInReach, ValueFits}
-use Rattle.js_machine.proofs.fitting.Growth.{Grows, stays, grows_on, is_there, later_reach}
+use Rattle.js_machine.proofs.fitting.Growth.{stays, grows_on, is_there, later_reach}
 use Rattle.js_machine.proofs.fitting.Family as asks
 use Rattle.js_machine.proofs.fitting.Family.{ProgramFits, OnValues, OnAll, later_program}
 use Rattle.js_machine.proofs.fitting.Frames.{if_fits, on_value_fits}

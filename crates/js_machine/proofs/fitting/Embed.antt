@@ -1,8 +1,7 @@
 -- The natives' programs as programs of the machine.
-use Rattle.std.proofs.Common.{ℕ, ◌≤◌, List, arith}
+use Rattle.std.proofs.Common.{List, arith}
 use Rattle.std.specs.Prelude.{Option, Some, None}
 use Rattle.js_values.specs.declared.value.Value.{Value}
-use Rattle.js_values.specs.declared.value.Value.TheVariants as value
 use Rattle.object_heap.specs.declared.built_in.BuiltIn.{BuiltIn}
 use Rattle.object_heap.specs.declared.built_in.BuiltIn.TheVariants as built
 use Rattle.js_natives.specs.declared.answer.Answer.{Answer}
@@ -11,13 +10,11 @@ use Rattle.js_natives.specs.declared.answer.ErrorKind.TheVariants as error
 use Rattle.js_natives.specs.declared.native.Native.{Native}
 use Rattle.js_natives.specs.Natives.{calls_of}
 use Rattle.js_natives.specs.Program as native
-use Rattle.js_machine.specs.Asks.{Program}
 use Rattle.js_machine.specs.Embed.{error_prototype, answered, embed, constructed_by, construct_native}
 use Rattle.js_machine.specs.Kinds.{class_by}
 use Rattle.js_machine.specs.References.{throws}
 use Rattle.js_machine.specs.Reachable as fits
 use Rattle.js_machine.specs.Reachable.{Each, Counts, ValueFits}
-use Rattle.js_machine.proofs.fitting.Growth.{Grows, stays, grows_on}
 use Rattle.js_machine.proofs.fitting.Family as asks
 use Rattle.js_machine.proofs.fitting.Family.{ProgramFits, later_program}
 use Rattle.js_machine.proofs.fitting.Frames.{gives_fits}

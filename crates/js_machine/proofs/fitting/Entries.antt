@@ -15,16 +15,16 @@ use Rattle.js_tree.specs.declared.tree.Role.TheVariants as role
 use Rattle.js_tree.specs.Tree.{Func, Code, Stmts}
 use Rattle.js_calls.specs.Declared.{functions_of, vars_in_all}
 use Rattle.js_calls.specs.Entry.{this_at_entry}
-use Rattle.js_machine.specs.Asks.{Program, Node, AnExpr, AStmt, ATurn, AScript, Env, Outcome}
+use Rattle.js_machine.specs.Asks.{Program, Node, AnExpr, AStmt, ATurn, AScript, Env}
 use Rattle.js_machine.specs.Conversions.{or_stop}
-use Rattle.js_machine.specs.Entries.{counted, enter_code, returned, to_caller, after_body, enter_native, entry, declared, define_function, define_functions, define_variable, define_variables, enter_script}
+use Rattle.js_machine.specs.Entries.{counted, enter_code, returned, to_caller, after_body, enter_native, entry, define_function, define_functions, define_variable, define_variables, enter_script}
 use Rattle.js_machine.specs.Functions.{name_of}
 use Rattle.js_machine.specs.Programs.{program}
 use Rattle.js_machine.specs.State.{Callee}
 use Rattle.js_machine.specs.State as state
 use Rattle.js_machine.specs.Reachable as fits
 use Rattle.js_machine.specs.Reachable.{Each, IfAny, Counts, IsScope, ValueFits, EnvFits, CompletionFits}
-use Rattle.js_machine.proofs.fitting.Growth.{Grows, stays, grows_on, later_value, later_chain, later_env}
+use Rattle.js_machine.proofs.fitting.Growth.{later_value, later_chain}
 use Rattle.js_machine.proofs.fitting.Family as asks
 use Rattle.js_machine.proofs.fitting.Family.{ProgramFits, OnOutcomes, later_program}
 use Rattle.js_machine.proofs.fitting.Frames as landings

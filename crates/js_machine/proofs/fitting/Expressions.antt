@@ -1,15 +1,14 @@
 -- Expressions.
 use Rattle.std.specs.Prelude.{Option, Some, None}
-use Rattle.js_values.specs.declared.value.Value.{Value}
 use Rattle.js_values.specs.Values.{truth_of}
 use Rattle.js_tree.specs.declared.tree.BinaryOp.{BinaryOp}
 use Rattle.js_tree.specs.Tree.{Expr}
 use Rattle.js_tree.specs.Tree as tree
-use Rattle.js_machine.specs.Asks.{Program, Env}
+use Rattle.js_machine.specs.Asks.{Env}
 use Rattle.js_machine.specs.Expressions.{binary, and, or, conditional, assign, comma, expression}
 use Rattle.js_machine.specs.Reachable as fits
 use Rattle.js_machine.specs.Reachable.{Counts, ValueFits, EnvFits}
-use Rattle.js_machine.proofs.fitting.Growth.{Grows, stays, grows_on, later_value, later_env}
+use Rattle.js_machine.proofs.fitting.Growth.{grows_on, later_value, later_env}
 use Rattle.js_machine.proofs.fitting.Family as asks
 use Rattle.js_machine.proofs.fitting.Family.{ProgramFits}
 use Rattle.js_machine.proofs.fitting.Frames.{if_fits, gives_fits, value_of_fits}

@@ -1,6 +1,6 @@
 -- Programs that fit: what they ask for is there, and for every answer that fits in a later world they
 -- go on so.
-use Rattle.std.proofs.Common.{◌≡◌, ℕ, List}
+use Rattle.std.proofs.Common.{ℕ, List}
 use Rattle.std.specs.Prelude.{Bool, Option}
 use Rattle.js_values.specs.declared.reason.Reason.{Reason}
 use Rattle.js_values.specs.declared.value.Value.{Value}

@@ -1,5 +1,5 @@
 -- How programs go on with outcomes.
-use Rattle.std.proofs.Common.{ℕ, Bool, true, false, List}
+use Rattle.std.proofs.Common.{Bool, true, false}
 use Rattle.std.specs.Prelude.{if◌then◌else◌}
 use Rattle.js_values.specs.declared.value.Value.{Value}
 use Rattle.exceptions_core.specs.declared.completion.Completion.{Completion}
@@ -13,7 +13,7 @@ use Rattle.js_machine.specs.Asks.{Program, Env, Outcome}
 use Rattle.js_machine.specs.Frames.{gives, completes, done, on_value, value_of, after_completion, after_statement, at_landing, completion_of, at_frame}
 use Rattle.js_machine.specs.Reachable as fits
 use Rattle.js_machine.specs.Reachable.{Counts, ValueFits, EnvFits, CompletionFits, OutcomeFits}
-use Rattle.js_machine.proofs.fitting.Growth.{Grows, stays, grows_on, later_value}
+use Rattle.js_machine.proofs.fitting.Growth.{Grows, stays, grows_on}
 use Rattle.js_machine.proofs.fitting.Family as asks
 use Rattle.js_machine.proofs.fitting.Family.{ProgramFits, OnOutcomes, OnValues, later_program}
 

@@ -1,5 +1,5 @@
 -- Function expressions.
-use Rattle.std.proofs.Common.{ℕ, List, [], ◌∷◌}
+use Rattle.std.proofs.Common.{ℕ, List}
 use Rattle.std.specs.Prelude.{Option, Some, None}
 use Rattle.object_heap.specs.Names.{Name}
 use Rattle.js_tree.specs.Tree.{Func}
@@ -7,7 +7,7 @@ use Rattle.js_machine.specs.Asks.{Program, Env}
 use Rattle.js_machine.specs.Functions.{name_of, named_function, function_expression, made_late, late_function}
 use Rattle.js_machine.specs.Reachable as fits
 use Rattle.js_machine.specs.Reachable.{Each, Counts, IsScope, EnvFits}
-use Rattle.js_machine.proofs.fitting.Growth.{Grows, stays, grows_on, later_reach, later_scope, later_chain}
+use Rattle.js_machine.proofs.fitting.Growth.{grows_on, later_scope, later_chain}
 use Rattle.js_machine.proofs.fitting.Family as asks
 use Rattle.js_machine.proofs.fitting.Family.{ProgramFits, OnObjects}
 use Rattle.js_machine.proofs.fitting.Frames.{gives_fits}

@@ -4,7 +4,6 @@ use Rattle.std.specs.Prelude.{Option}
 use Rattle.js_values.specs.declared.value.Value.{Value}
 use Rattle.exceptions_core.specs.declared.completion.Completion.{Completion}
 use Rattle.object_heap.specs.Objects.{Slot, Property, Object}
-use Rattle.object_heap.specs.Visited.{Visit}
 use Rattle.scope_arena.specs.Scopes.{Binding, Scope}
 use Rattle.js_machine.specs.Asks.{Env, Outcome}
 use Rattle.js_machine.specs.State.{Body}

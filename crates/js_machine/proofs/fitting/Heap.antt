@@ -1,21 +1,21 @@
 -- What the calls of the heap give and leave.
-use Rattle.std.proofs.Common.{◌≡◌, ℕ, zero, suc, ◌+◌, ◌<◌, Bool, true, false, ◌||◌, List, [], ◌∷◌, ◌++◌, length, refl, sym, ◌∙◌, ap, subst, arith}
-use Rattle.std.proofs.Common.{◌==◌, ne_eqb}
-use Rattle.std.specs.Prelude.{Option, Some, None, option_map, is_some, if◌then◌else◌, slice_get, slice_set, nat_lt}
+use Rattle.std.proofs.Common.{◌≡◌, ℕ, zero, suc, ◌+◌, ◌<◌, Bool, true, false, ◌||◌, List, [], ◌∷◌, ◌++◌, length, refl, sym, ◌∙◌, ap, arith}
+use Rattle.std.proofs.Common.{ne_eqb}
+use Rattle.std.specs.Prelude.{Option, Some, None, option_map, is_some, slice_set, nat_lt}
 use Rattle.js_values.specs.declared.value.Value.{Value}
 use Rattle.object_heap.specs.declared.built_in.BuiltIn.TheVariants as built
 use Rattle.object_heap.specs.declared.object.Attrs.{Attrs}
 use Rattle.object_heap.specs.declared.object.Class.{Class}
 use Rattle.object_heap.specs.declared.object.Class.TheVariants as class
-use Rattle.object_heap.specs.Arrays.{whole, put_value, length_in, length_value, is_between, cut, put_length, grown, put_in_array}
+use Rattle.object_heap.specs.Arrays.{put_value, length_in, length_value, is_between, cut, put_length, grown, put_in_array}
 use Rattle.object_heap.specs.BuiltIns.{number_of}
 use Rattle.object_heap.specs.Changes.{holding, put_property, defined_at, defined, can_delete, without, deleted_if, deleted}
-use Rattle.object_heap.specs.Get.{can_put, first_or, met_along, met, get}
+use Rattle.object_heap.specs.Get.{can_put, first_or, met_along, get}
 use Rattle.object_heap.specs.Laws.{PrototypesComeBefore, is_object, holds, is_held_in, IsNowhereHeld}
 use Rattle.object_heap.specs.Names.{Name, is_same_name, length_name, index_of}
-use Rattle.object_heap.specs.Objects.{Slot, Holds, Shares, Property, Object, Heap, own_in, own_of, prototype_in, prototype_of, properties_in, properties_of, with_properties, chain_on, chain_within, chain_of}
-use Rattle.object_heap.specs.Put.{put_by, done_or_bad, put_own, put_if, put, heap_after, written}
-use Rattle.object_heap.specs.Visited.{Visit, is_unseen, visits_in, visits_along, visits}
+use Rattle.object_heap.specs.Objects.{Slot, Holds, Shares, Property, Object, Heap, own_in, prototype_in, prototype_of, properties_in, properties_of, with_properties, chain_on, chain_within, chain_of}
+use Rattle.object_heap.specs.Put.{put_by, done_or_bad, put_own, put_if, heap_after, written}
+use Rattle.object_heap.specs.Visited.{is_unseen, visits_in, visits_along, visits}
 use Rattle.object_heap.proofs.Prototypes.{stay_before}
 use Rattle.js_machine.specs.Reachable as fits
 use Rattle.js_machine.specs.Reachable.{Each, IfAny, Counts, IsObject, IsInReach, ValueFits, SlotFits, PropertyFits, ObjectFits, HeapFits}

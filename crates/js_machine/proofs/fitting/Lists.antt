@@ -1,6 +1,6 @@
 -- What holds of each of a list.
 use Rattle.std.proofs.Common.{◌≡◌, ℕ, zero, suc, ◌<◌, List, [], ◌∷◌, ◌++◌, length, refl, ap, arith}
-use Rattle.std.specs.Prelude.{Option, Some, None, map, option_map, slice_get, slice_set, take, drop, if◌then◌else◌, Bool, true, false}
+use Rattle.std.specs.Prelude.{Option, Some, option_map, slice_get, slice_set, take, if◌then◌else◌, Bool, true, false}
 use Rattle.js_machine.specs.Reachable.{Each, empty, more, IfAny, nothing, just}
 
 pub each_so : {A : Type 0} {P Q : A → Type 0} → ((x : A) → P x → Q x) → {xs : List A} → Each P xs → Each Q xs

@@ -1,28 +1,25 @@
 -- Iteration statements.
-use Rattle.std.proofs.Common.{ℕ, ◌≤◌, List, [], ◌∷◌, arith}
+use Rattle.std.proofs.Common.{List, arith}
 use Rattle.std.specs.Prelude.{Option, Some, None}
 use Rattle.js_values.specs.declared.value.Value.{Value}
-use Rattle.js_values.specs.declared.value.Value.TheVariants as value
 use Rattle.js_values.specs.Values.{truth_of}
 use Rattle.exceptions_core.specs.declared.completion.Frame.TheVariants as frame
-use Rattle.exceptions_core.specs.declared.completion.Landing.{Landing}
 use Rattle.object_heap.specs.declared.built_in.BuiltIn.TheVariants as built
 use Rattle.object_heap.specs.declared.object.Attrs.{Attrs}
 use Rattle.object_heap.specs.BuiltIns.{number_of}
 use Rattle.object_heap.specs.Names.{Name}
 use Rattle.object_heap.specs.Visited.{Visit}
 use Rattle.js_tree.specs.Tree.{Expr, MaybeExpr, NoExpr, AnExpr, Stmt, ForInit, Nothing, Vars, First, ForTarget, AVar, Target}
-use Rattle.js_machine.specs.Asks.{Program, Loop, Env, Outcome}
+use Rattle.js_machine.specs.Asks.{Program, Loop, Env}
 use Rattle.js_machine.specs.Loops.{on_test, updated, next_turn, after_turn, waits_in_turn, do_while, while, first_part, for, write_name, next_or_left, after_visit, visit, visits, visited_object, before_object, for_in}
 use Rattle.js_machine.specs.Reachable as fits
 use Rattle.js_machine.specs.Reachable.{Each, Counts, IsObject, ValueFits, EnvFits}
-use Rattle.js_machine.proofs.fitting.Lists.{each_so}
-use Rattle.js_machine.proofs.fitting.Growth.{Grows, stays, grows_on, started, is_there, later_object, later_value, later_env}
+use Rattle.js_machine.proofs.fitting.Growth.{grows_on, started, is_there, later_env}
 use Rattle.js_machine.proofs.fitting.Family as asks
 use Rattle.js_machine.proofs.fitting.Family.{ProgramFits, VisitFits, OnOutcomes, OnValues, StackFits, later_program}
 use Rattle.js_machine.proofs.fitting.Frames as landings
 use Rattle.js_machine.proofs.fitting.Frames.{if_fits, completes_fits, done_fits, on_value_fits, value_of_fits, OnLandings, at_frame_fits}
-use Rattle.js_machine.proofs.fitting.References.{later_reference, resolve_fits, put_value_fits}
+use Rattle.js_machine.proofs.fitting.References.{resolve_fits, put_value_fits}
 use Rattle.js_machine.proofs.fitting.Conversions.{to_object_fits}
 use Rattle.js_machine.proofs.fitting.Calls.{reference_fits}
 use Rattle.js_machine.proofs.fitting.Variables.{variable_fits, variables_fit}

@@ -1,6 +1,6 @@
 -- Operators between two values.
-use Rattle.std.proofs.Common.{ℕ, Bool, true, false, ◌||◌, not, List, [], ◌∷◌, ◌++◌}
-use Rattle.std.specs.Prelude.{Option, Some, None, Result, Ok, Err, bit_and, bit_or, bit_xor}
+use Rattle.std.proofs.Common.{ℕ, Bool, false, ◌||◌, not, ◌++◌}
+use Rattle.std.specs.Prelude.{Option, Some, None, Result, bit_and, bit_or, bit_xor}
 use Rattle.js_values.specs.declared.number.Num.{Num}
 use Rattle.js_values.specs.declared.reason.Reason.{Reason}
 use Rattle.js_values.specs.declared.value.Value.{Value}
@@ -11,13 +11,13 @@ use Rattle.js_values.specs.Numbers.{sum_of, difference_of, product_of, quotient_
 use Rattle.object_heap.specs.Names.{prototype_name}
 use Rattle.js_tree.specs.declared.tree.BinaryOp.{BinaryOp}
 use Rattle.js_tree.specs.declared.tree.BinaryOp.TheVariants as op
-use Rattle.js_machine.specs.Asks.{Program, Kind}
+use Rattle.js_machine.specs.Asks.{Program}
 use Rattle.js_machine.specs.Conversions.{HintNumber, to_primitive, to_number}
 use Rattle.js_machine.specs.Kinds.{is_function}
-use Rattle.js_machine.specs.Operators.{arithmetic, exactly, bitwise, is_text, concatenated, added, text_less, primitive_less, less, is_so, is_not_so, has_instance, instance_of, instance_of_value, has_property, primitive_equal, object_equals, equals, as_it_is, order, operate}
+use Rattle.js_machine.specs.Operators.{arithmetic, exactly, bitwise, is_text, concatenated, added, text_less, primitive_less, less, is_so, is_not_so, has_instance, instance_of, instance_of_value, has_property, primitive_equal, object_equals, equals, order, operate}
 use Rattle.js_machine.specs.Reachable as fits
 use Rattle.js_machine.specs.Reachable.{Counts, IsInReach, ValueFits}
-use Rattle.js_machine.proofs.fitting.Growth.{Grows, stays, grows_on, is_there, later_reach, later_value}
+use Rattle.js_machine.proofs.fitting.Growth.{stays, grows_on, is_there, later_reach, later_value}
 use Rattle.js_machine.proofs.fitting.Family as asks
 use Rattle.js_machine.proofs.fitting.Family.{ProgramFits, OnValues, OnAll, later_program}
 use Rattle.js_machine.proofs.fitting.Frames.{if_fits}

@@ -1,5 +1,5 @@
 -- Primary expressions.
-use Rattle.std.proofs.Common.{ℕ, ◌≤◌, suc, arith}
+use Rattle.std.proofs.Common.{ℕ, suc, arith}
 use Rattle.object_heap.specs.declared.built_in.BuiltIn.TheVariants as built
 use Rattle.object_heap.specs.declared.object.Class.TheVariants as class
 use Rattle.object_heap.specs.BuiltIns.{number_of}
@@ -9,7 +9,7 @@ use Rattle.js_machine.specs.Asks.{Program, Env}
 use Rattle.js_machine.specs.Primary.{identifier, new_array, elements, array_literal, new_plain, pairs, object_literal}
 use Rattle.js_machine.specs.Reachable as fits
 use Rattle.js_machine.specs.Reachable.{Counts, IsInReach, ObjectFits, EnvFits}
-use Rattle.js_machine.proofs.fitting.Growth.{Grows, stays, grows_on, started, is_there, later_reach, later_env}
+use Rattle.js_machine.proofs.fitting.Growth.{started, is_there, later_reach, later_env}
 use Rattle.js_machine.proofs.fitting.Family as asks
 use Rattle.js_machine.proofs.fitting.Family.{ProgramFits, later_program}
 use Rattle.js_machine.proofs.fitting.Frames.{gives_fits, value_of_fits}

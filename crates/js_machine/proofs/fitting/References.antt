@@ -1,6 +1,6 @@
 -- Errors and references.
 use Rattle.std.proofs.Common.{ℕ, ◌≤◌, Bool, true, false, List, length, arith}
-use Rattle.std.specs.Prelude.{Option, Some, None}
+use Rattle.std.specs.Prelude.{Option, Some}
 use Rattle.js_values.specs.declared.value.Value.{Value}
 use Rattle.object_heap.specs.declared.built_in.BuiltIn.{BuiltIn}
 use Rattle.object_heap.specs.declared.built_in.BuiltIn.TheVariants as built
@@ -11,7 +11,6 @@ use Rattle.object_heap.specs.BuiltIns.{number_of}
 use Rattle.object_heap.specs.Changes.{first_properties, new_object}
 use Rattle.object_heap.specs.Names.{Name, is_same_name, length_name}
 use Rattle.js_machine.specs.Asks.{Program}
-use Rattle.js_machine.specs.State.{object_value}
 use Rattle.js_machine.specs.References.{error_object, throws, throws_type_error, throws_reference_error, throws_range_error, Reference, NoReference, InScope, OnBase, Unbound, global_object, global_value, if_global, if_found, resolve, or_undefined, get, get_of_text, get_on, get_value, put, put_on, put_value}
 use Rattle.js_machine.specs.Reachable as fits
 use Rattle.js_machine.specs.Reachable.{Each, IfAny, Counts, IsObject, IsInReach, IsScope, ValueFits, PropertyFits, ObjectFits}

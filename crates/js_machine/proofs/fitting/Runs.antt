@@ -1,13 +1,11 @@
 -- Programs that fit, under stacks that do, lead from states that fit to such states: one induction, with
 -- one clause an ask.
-use Rattle.std.proofs.Common.{◌≡◌, ℕ, zero, suc, List, [], ◌∷◌, ◌++◌, length, refl, ap}
-use Rattle.std.specs.Prelude.{Option, Some, None}
+use Rattle.std.proofs.Common.{ℕ, zero, suc, [], ◌∷◌, ◌++◌, length}
+use Rattle.std.specs.Prelude.{Option}
 use Rattle.js_values.specs.Equality.{same_value}
 use Rattle.js_values.specs.Shown.{passed_with, passed_with_all}
 use Rattle.exceptions_core.specs.declared.completion.Completion.TheVariants.{Throw}
 use Rattle.object_heap.specs.declared.built_in.BuiltIn.TheVariants as built
-use Rattle.object_heap.specs.declared.object.Class.TheVariants as class
-use Rattle.object_heap.specs.BuiltIns.{number_of}
 use Rattle.object_heap.specs.Changes.{can_delete, defined, deleted}
 use Rattle.object_heap.specs.Get.{has_property}
 use Rattle.object_heap.specs.Objects.{attributes_of, is_behind}
@@ -16,16 +14,15 @@ use Rattle.object_heap.specs.Visited as visited
 use Rattle.scope_arena.specs.Scopes.{fixed_at}
 use Rattle.scope_arena.specs.Search.{value_of_name}
 use Rattle.js_machine.specs.Asks.{Program, Outcome, Ends}
-use Rattle.js_machine.specs.Laws.{mean}
 use Rattle.js_machine.specs.Loops.{first_of_turn, waits_in_turn}
 use Rattle.js_machine.specs.Programs.{program}
 use Rattle.js_machine.specs.References.{error_object}
-use Rattle.js_machine.specs.Run.{World, Trace, Stack, Return, reply, entry_in, entered, if_entered, go, pop, due, run}
-use Rattle.js_machine.specs.State.{State, object_value, callee_of, kind_of, property_value, listening, is_length, with_step, with_beat, with_passed, with_call, with_listener, with_heap, with_scopes, with_object, with_function, with_new, with_entry, with_put, with_scope, with_write}
+use Rattle.js_machine.specs.Run.{World, Trace, Stack, Return, reply, entry_in, if_entered, go, pop, due, run}
+use Rattle.js_machine.specs.State.{State, object_value, kind_of, property_value, listening, is_length, with_step, with_beat, with_passed, with_call, with_listener, with_heap, with_scopes, with_object, with_function, with_new, with_entry, with_put, with_scope, with_write}
 use Rattle.js_machine.specs.Reachable as fits
 use Rattle.js_machine.specs.Reachable.{Each, IfAny, Counts, OutcomeFits, StateFits, Keeps, KeepsToTheEnd, says, ended, stopped, without_entry, out_of_steps, RepliesArePrimitive, NodesKeep}
 use Rattle.js_machine.proofs.fitting.Lists.{each_so}
-use Rattle.js_machine.proofs.fitting.Growth.{Grows, stays, grows_on, one_object, one_scope, object_grows, scope_grows, new_object, new_scope, started}
+use Rattle.js_machine.proofs.fitting.Growth.{Grows, stays, grows_on, one_object, one_scope, object_grows, scope_grows, new_object, new_scope}
 use Rattle.js_machine.proofs.fitting.Family as asks
 use Rattle.js_machine.proofs.fitting.Family.{ProgramFits, OnOutcomes, StackFits}
 use Rattle.js_machine.proofs.fitting.References.{type_error_object_fits}

@@ -1,14 +1,14 @@
 -- What the calls of scopes give and leave.
-use Rattle.std.proofs.Common.{◌≡◌, ℕ, zero, suc, ◌<◌, Bool, true, false, List, [], ◌∷◌, ◌++◌, length, refl, sym, ◌∙◌, ap, arith}
-use Rattle.std.specs.Prelude.{Option, Some, None, map, option_map, unwrap_or, if◌then◌else◌, slice_get, slice_set}
+use Rattle.std.proofs.Common.{◌≡◌, ℕ, zero, suc, Bool, true, false, List, [], ◌∷◌, length, refl, sym, ◌∙◌, ap, arith}
+use Rattle.std.specs.Prelude.{Option, Some, None, map, option_map, unwrap_or, if◌then◌else◌}
 use Rattle.js_values.specs.declared.value.Value.{Value}
 use Rattle.scope_arena.specs.Laws.{IsThere}
-use Rattle.scope_arena.specs.Scopes.{Name, Binding, Scope, Scopes, bindings_in, bindings_of, value_in, value_at, unset, entered, put_value, written_to, changed_at, written_at, fixed_at}
+use Rattle.scope_arena.specs.Scopes.{Name, Binding, Scope, Scopes, bindings_in, value_in, value_at, unset, entered, put_value, written_to, changed_at, written_at, fixed_at}
 use Rattle.scope_arena.specs.Search.{Place, find, read, value_of_name, written, with_name}
 use Rattle.scope_arena.proofs.Parents.{stay_before}
 use Rattle.js_machine.specs.Reachable as fits
 use Rattle.js_machine.specs.Reachable.{Each, IfAny, Counts, IsScope, ValueFits, BindingFits, ScopeFits, ScopesFit}
-use Rattle.js_machine.proofs.fitting.Lists.{each_joined, each_got, each_set, any_mapped, length_set}
+use Rattle.js_machine.proofs.fitting.Lists.{each_joined, each_got, each_set, length_set}
 use Rattle.js_machine.proofs.fitting.Growth.{Grows, one_scope, scope_grows, later_scope, later_scope_contents}
 use Rattle.js_machine.proofs.fitting.Heap.{length_more}
 

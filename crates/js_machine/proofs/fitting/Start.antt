@@ -1,34 +1,33 @@
 -- Pages: the state before the first step fits, and so does the program of the page.
-use Rattle.std.proofs.Common.{◌≡◌, ℕ, suc, ◌<◌, Bool, true, false, not, ◌&&◌, ◌==◌, List, [], ◌∷◌, ◌++◌, length, refl, sym, arith, ltb-true, false-eqb}
-use Rattle.std.specs.Prelude.{Option, Some, None, nat_lt, ◌≢◌}
+use Rattle.std.proofs.Common.{◌≡◌, ℕ, suc, ◌<◌, Bool, true, false, not, ◌&&◌, ◌==◌, List, [], ◌∷◌, length, refl, sym, arith, ltb-true, false-eqb}
+use Rattle.std.specs.Prelude.{Option, Some, None, nat_lt}
 use Rattle.js_values.specs.declared.value.Value.{Value}
 use Rattle.js_values.specs.declared.value.Value.TheVariants as value
-use Rattle.js_values.specs.Values.{IsPrimitive}
 use Rattle.exceptions_core.specs.declared.completion.Completion.{Completion}
 use Rattle.object_heap.specs.declared.built_in.BuiltIn.TheVariants as built
 use Rattle.object_heap.specs.BuiltIns.{number_of}
 use Rattle.object_heap.specs.Changes.{hidden_only}
 use Rattle.object_heap.specs.Names.{Name}
-use Rattle.object_heap.specs.Objects.{Slot, Holds, Shares, Property, Object, Heap}
+use Rattle.object_heap.specs.Objects.{Slot, Holds, Shares, Property, Heap}
 use Rattle.object_heap.specs.Start.{heap_at_start}
 use Rattle.object_heap.proofs.Prototypes as prototypes
 use Rattle.scope_arena.proofs.Parents as parents
-use Rattle.js_tree.specs.Tree.{Func, Script}
+use Rattle.js_tree.specs.Tree.{Script}
 use Rattle.js_machine.specs.Asks.{Program}
 use Rattle.js_machine.specs.Logs.{last_state}
-use Rattle.js_machine.specs.Page.{Page, host_function, with_host_call, with_host_calls, bare_state, state_at_start, script_env, after_task_completion, after_task, scripts, calls, event, events, page_program, page_run}
+use Rattle.js_machine.specs.Page.{Page, host_function, with_host_call, with_host_calls, bare_state, state_at_start, script_env, after_task_completion, after_task, scripts, calls, events, page_program}
 use Rattle.js_machine.specs.Run.{Trace}
 use Rattle.js_machine.specs.State.{State}
 use Rattle.js_machine.specs.Reachable as fits
-use Rattle.js_machine.specs.Reachable.{Each, IfAny, Counts, IsObject, IsInReach, ValueFits, SlotFits, PropertyFits, ObjectFits, HeapFits, ScopesFit, StateFits, Keeps, EnvFits, CompletionFits, KeepsToTheEnd, says, ended, stopped, without_entry, out_of_steps, RepliesArePrimitive, EventsArePrimitive, PagesKeep}
-use Rattle.js_machine.proofs.fitting.Growth.{Grows, stays, grows_on, one_object, object_grows, new_object, started, later_functions, later_listeners, later_reaches, later_values}
+use Rattle.js_machine.specs.Reachable.{Each, IfAny, Counts, IsObject, IsInReach, ValueFits, SlotFits, PropertyFits, ObjectFits, HeapFits, ScopesFit, StateFits, Keeps, EnvFits, CompletionFits, KeepsToTheEnd, says, ended, stopped, without_entry, out_of_steps, EventsArePrimitive, PagesKeep, ScriptsBegin}
+use Rattle.js_machine.proofs.fitting.Growth.{one_object, object_grows, new_object, started, later_functions, later_listeners, later_reaches}
 use Rattle.js_machine.proofs.fitting.Family as asks
 use Rattle.js_machine.proofs.fitting.Family.{ProgramFits, OnOutcomes, later_program}
 use Rattle.js_machine.proofs.fitting.Frames.{done_fits}
 use Rattle.js_machine.proofs.fitting.References.{global_fits}
 use Rattle.js_machine.proofs.fitting.Heap.{make_heap, define_heap}
 use Rattle.js_machine.proofs.fitting.Scopes.{same_scopes}
-use Rattle.js_machine.proofs.fitting.States.{primitive_fits}
+use Rattle.js_machine.proofs.fitting.States.{primitive_fits, keeps_of}
 use Rattle.js_machine.proofs.fitting.Runs.{run_keeps}
 
 -- ---- the objects of the start, by computing
@@ -194,3 +193,6 @@ pub pages_keep : PagesKeep
 pages_keep entries all page n replies events =
     let b = page_begins page.host in
     last_keeps (run_keeps (record { replies = page.replies; entries = entries }) replies n (page_fits all page b.scope events) fits.empty b.fits)
+
+pub scripts_begin : ScriptsBegin
+scripts_begin host = let b = page_begins host in (keeps_of b.fits, script_env_fits b.scope)

@@ -1,5 +1,5 @@
 -- Statements.
-use Rattle.std.proofs.Common.{ℕ, List, [], ◌∷◌, ◌++◌}
+use Rattle.std.proofs.Common.{List, [], ◌∷◌, ◌++◌}
 use Rattle.js_values.specs.declared.value.Value.{Value}
 use Rattle.js_values.specs.Values.{truth_of}
 use Rattle.exceptions_core.specs.declared.completion.Frame.TheVariants as frame
@@ -9,10 +9,10 @@ use Rattle.js_tree.specs.Tree as tree
 use Rattle.js_machine.specs.Asks as ask
 use Rattle.js_machine.specs.Asks.{Program, Env}
 use Rattle.js_machine.specs.Frames.{after_statement}
-use Rattle.js_machine.specs.Statements.{begin_statement, last_statement, statements, otherwise, if_statement, return, joined, bodies_of, bodies_from_default, select, left, after_switch, switch, after_labelled, labelled, caught, on_catch, finished, on_finally, try, statement}
+use Rattle.js_machine.specs.Statements.{begin_statement, last_statement, statements, otherwise, if_statement, return, joined, bodies_of, bodies_from_default, select, left, switch, after_labelled, labelled, caught, on_catch, finished, on_finally, try, statement}
 use Rattle.js_machine.specs.Reachable as fits
 use Rattle.js_machine.specs.Reachable.{Counts, ValueFits, EnvFits}
-use Rattle.js_machine.proofs.fitting.Growth.{Grows, stays, grows_on, later_value, later_chain, later_env}
+use Rattle.js_machine.proofs.fitting.Growth.{grows_on, later_value, later_chain, later_env}
 use Rattle.js_machine.proofs.fitting.Family as asks
 use Rattle.js_machine.proofs.fitting.Family.{ProgramFits, OnOutcomes, later_program}
 use Rattle.js_machine.proofs.fitting.Frames as landings

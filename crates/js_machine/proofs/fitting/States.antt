@@ -1,5 +1,5 @@
 -- What states give and become.
-use Rattle.std.proofs.Common.{◌≡◌, ℕ, suc, List, [], ◌∷◌, ◌++◌, length, refl, sym, ◌∙◌, ap, subst, ◌==◌}
+use Rattle.std.proofs.Common.{◌≡◌, ℕ, List, [], ◌∷◌, length, refl, subst, ◌==◌}
 use Rattle.std.specs.Prelude.{Option, Some, None, nat_eq, slice_get, unwrap_or}
 use Rattle.std.specs.List.{list_any}
 use Rattle.js_values.specs.declared.value.Value.{Value}
@@ -18,17 +18,16 @@ use Rattle.js_tree.specs.Tree.{Func, Code}
 use Rattle.js_calls.specs.Declared.{functions_of}
 use Rattle.js_calls.specs.Entry.{Entered, with_arguments, with_declared, with_all_declared, entry_of}
 use Rattle.js_calls.specs.FunctionObjects.{formals_of}
-use Rattle.js_machine.specs.Asks.{Program}
-use Rattle.js_machine.specs.State.{Body, State, Callee, body_callee, body_in, function_callee, callee_by, callee_of, value_in_slot, value_read, property_value, scopes_after, listening, body_of, with_step, with_beat, with_passed, with_call, with_listener, with_heap, with_scopes, with_object, with_function, with_new, with_bodies, with_entered, with_entry, with_put, with_scope, with_write}
+use Rattle.js_machine.specs.State.{Body, State, Callee, body_callee, body_in, function_callee, callee_by, callee_of, value_in_slot, value_read, property_value, scopes_after, listening, body_of, with_step, with_beat, with_passed, with_call, with_listener, with_heap, with_scopes, with_object, with_function, with_new, with_bodies, with_entry, with_put, with_scope}
 use Rattle.js_machine.specs.Run.{World, replies_of, times_in, reply, entered}
 use Rattle.js_machine.specs.Reachable as fits
 use Rattle.js_machine.specs.Reachable.{Each, IfAny, Counts, IsInReach, IsScope, ValueFits, SlotFits, ObjectFits, BodyFits, FunctionFits, ListenerFits, HeapFits, ScopesFit, StateFits, Keeps, RepliesArePrimitive}
 use Rattle.js_machine.proofs.fitting.Lists.{each_joined, each_got, each_if, any_if}
-use Rattle.js_machine.proofs.fitting.Growth.{Grows, one_object, one_scope, object_grows, scope_grows, new_object, later_scope, later_chain, later_reach, later_reaches, later_functions, later_listeners}
+use Rattle.js_machine.proofs.fitting.Growth.{Grows, one_object, one_scope, object_grows, scope_grows, later_chain, later_reaches, later_functions, later_listeners}
 use Rattle.js_machine.proofs.fitting.Family.{ProgramFits}
 use Rattle.js_machine.proofs.fitting.Entries.{CalleeFits, a_script, a_native, a_host_call, entry_fits}
 use Rattle.js_machine.proofs.fitting.Heap.{put_heap, get_slot_fits, make_heap, same_heap, not_held}
-use Rattle.js_machine.proofs.fitting.Scopes.{value_at_fits, write_scopes, name_scopes, enter_scopes, same_scopes}
+use Rattle.js_machine.proofs.fitting.Scopes.{value_at_fits, write_scopes, enter_scopes, same_scopes}
 use Rattle.js_machine.proofs.fitting.Bound.{constructed_heap, one_function, function_grows, new_function, function_heap, Binds, entry_binds}
 
 -- ---- what a value runs when it is entered

@@ -1,12 +1,11 @@
 -- Postfix and unary operators.
-use Rattle.std.proofs.Common.{ℕ, Bool, true, false, not, List}
+use Rattle.std.proofs.Common.{ℕ, Bool, true, not, List}
 use Rattle.std.specs.Prelude.{Result}
 use Rattle.js_values.specs.declared.number.Num.{Num}
 use Rattle.js_values.specs.declared.reason.Reason.{Reason}
 use Rattle.js_values.specs.declared.value.Value.{Value}
-use Rattle.js_values.specs.declared.value.Value.TheVariants as value
 use Rattle.js_values.specs.Numbers.{sum_of, difference_of, negation_of}
-use Rattle.js_values.specs.Values.{truth_of, type_of}
+use Rattle.js_values.specs.Values.{type_of}
 use Rattle.object_heap.specs.Names.{Name, is_same_name, length_name}
 use Rattle.js_tree.specs.declared.tree.PostfixOp.{PostfixOp}
 use Rattle.js_tree.specs.declared.tree.PostfixOp.TheVariants as postfix
@@ -16,7 +15,7 @@ use Rattle.js_tree.specs.Tree.{Expr}
 use Rattle.js_machine.specs.Asks.{Program, Env}
 use Rattle.js_machine.specs.Kinds.{is_function}
 use Rattle.js_machine.specs.References.{Reference, get_value}
-use Rattle.js_machine.specs.Unary.{one, changed, gives_before, gives_after, postfix_operation, delete_on, delete_reference, type_name, type_of_reference, number_operation, as_it_is, complement, prefix_operation}
+use Rattle.js_machine.specs.Unary.{one, changed, postfix_operation, delete_on, delete_reference, type_name, type_of_reference, number_operation, as_it_is, complement, prefix_operation}
 use Rattle.js_machine.specs.Reachable as fits
 use Rattle.js_machine.specs.Reachable.{Counts, ValueFits, EnvFits}
 use Rattle.js_machine.proofs.fitting.Growth.{Grows, stays, grows_on, is_there}

@@ -4,7 +4,7 @@ use Rattle.js_tree.specs.Tree.{MaybeExpr, NoExpr, AnExpr, VarItems, NoVarItems, 
 use Rattle.js_machine.specs.Asks.{Program, Env}
 use Rattle.js_machine.specs.Variables.{variable, variables}
 use Rattle.js_machine.specs.Reachable.{Counts, EnvFits}
-use Rattle.js_machine.proofs.fitting.Growth.{Grows, stays, grows_on, later_env}
+use Rattle.js_machine.proofs.fitting.Growth.{grows_on, later_env}
 use Rattle.js_machine.proofs.fitting.Family.{ProgramFits, later_program}
 use Rattle.js_machine.proofs.fitting.Frames.{value_of_fits}
 use Rattle.js_machine.proofs.fitting.References.{later_reference, resolve_fits, put_value_fits}

@@ -1,5 +1,5 @@
 -- Array, and Array.prototype but for what moves elements.
-use Rattle.std.proofs.Common.{ℕ, zero, suc, ◌≤◌, Bool, true, false, List, [], ◌∷◌, ◌++◌, arith}
+use Rattle.std.proofs.Common.{ℕ, zero, suc, Bool, true, false, List, [], ◌∷◌, ◌++◌, arith}
 use Rattle.std.specs.Prelude.{is_some, pos}
 use Rattle.js_values.specs.declared.number.Num.{Num}
 use Rattle.js_values.specs.declared.number.Num.TheVariants.{Whole}
@@ -15,12 +15,12 @@ use Rattle.object_heap.specs.Names.{Name}
 use Rattle.js_natives.specs.declared.answer.ErrorKind.TheVariants.{RangeError}
 use Rattle.js_natives.specs.Arrays.{length_of, new_array, with_elements, array_of, with_length, put_length, array_of_size, array_of_length, array_of_one, array, copied, elements, spread, alone, by_class, item, items, concat, separator, piece, pieces, joined, join_of, join, join_by_class, array_to_string, popped, pop, pushed, push}
 use Rattle.js_natives.specs.Asks.{Asks, throw, the_object}
-use Rattle.js_natives.specs.Convert.{argument, number_in}
+use Rattle.js_natives.specs.Convert.{number_in}
 use Rattle.js_natives.specs.Indices.{indices}
 use Rattle.js_natives.specs.Program.{Program, Done}
 use Rattle.js_machine.specs.Reachable as fits
 use Rattle.js_machine.specs.Reachable.{Each, Counts, IsObject, IsInReach, ValueFits}
-use Rattle.js_machine.proofs.fitting.Growth.{Grows, stays, grows_on, started, is_there, later_object, later_reach, later_value, later_values}
+use Rattle.js_machine.proofs.fitting.Growth.{stays, grows_on, started, is_there, later_reach, later_value, later_values}
 use Rattle.js_machine.proofs.fitting.natives.Family as asks
 use Rattle.js_machine.proofs.fitting.natives.Family.{NativeFits, OnObjects, OnAll, later_native, chosen}
 use Rattle.js_machine.proofs.fitting.natives.Convert.{Row, made_text_fits, this_object_fits, argument_fits}

@@ -1,13 +1,13 @@
 -- `this` and arguments of natives.
-use Rattle.std.proofs.Common.{ℕ, Bool, List, [], ◌∷◌, ◌++◌, length, suc, zero}
-use Rattle.std.specs.Prelude.{nat_le, Option, unwrap_or, slice_get, drop}
+use Rattle.std.proofs.Common.{ℕ, Bool, List, [], ◌∷◌, length}
+use Rattle.std.specs.Prelude.{nat_le, Option, unwrap_or, drop}
 use Rattle.js_values.specs.declared.number.Num.{Num}
 use Rattle.js_values.specs.declared.reason.Reason.TheVariants.{LongText}
 use Rattle.js_values.specs.declared.value.Value.{Value}
 use Rattle.js_values.specs.declared.value.Value.TheVariants as value
 use Rattle.object_heap.specs.Names.{Name}
 use Rattle.js_natives.specs.declared.answer.Answer.{Answer}
-use Rattle.js_natives.specs.Asks.{Asks, longest_text, made_text, pure, stop, the_object, text_answer, object_answer}
+use Rattle.js_natives.specs.Asks.{Asks, longest_text, made_text, pure, stop, the_object, text_answer}
 use Rattle.js_natives.specs.Convert as convert
 use Rattle.js_natives.specs.Convert.{This, Kind, this_converted, made_text_of, made_number_of, argument_converted, arguments_converted, argument}
 use Rattle.js_natives.specs.Program.{Program, Done}
@@ -15,13 +15,12 @@ use Rattle.js_natives.specs.This.{global, this_object, this_truth, this_number, 
 use Rattle.js_machine.specs.Reachable as fits
 use Rattle.js_machine.specs.Reachable.{Each, IfAny, Counts, IsInReach, ValueFits}
 use Rattle.js_machine.proofs.fitting.Lists.{each_got}
-use Rattle.js_machine.proofs.fitting.Growth.{Grows, stays, grows_on, later_value, later_values}
+use Rattle.js_machine.proofs.fitting.Growth.{stays, grows_on, later_value, later_values}
 use Rattle.js_machine.proofs.fitting.References.{global_in_reach}
 use Rattle.js_machine.proofs.fitting.natives.Family as asks
 use Rattle.js_machine.proofs.fitting.natives.Family.{NativeFits, OnValues, OnLists, OnObjects, OnAll, chosen}
 
 -- ---- answers and texts
-
 
 pub made_text_fits : (s : Name) (k : Name → Program) {w : Counts} → NativeFits w (k s) → NativeFits w (made_text s k)
 made_text_fits s k h = chosen (nat_le (length s) longest_text) (pure s) (stop LongText) h (asks.done asks.stop)

@@ -5,12 +5,11 @@ use Rattle.js_values.specs.declared.value.Value.{Value}
 use Rattle.object_heap.specs.declared.built_in.BuiltIn.{BuiltIn}
 use Rattle.object_heap.specs.BuiltIns.{number_of}
 use Rattle.object_heap.specs.Names.{Name}
-use Rattle.js_natives.specs.Convert.{argument}
 use Rattle.js_natives.specs.Errors.{with_message, error, described, error_to_string}
-use Rattle.js_natives.specs.Program.{Program, Done}
+use Rattle.js_natives.specs.Program.{Program}
 use Rattle.js_machine.specs.Reachable as fits
 use Rattle.js_machine.specs.Reachable.{Counts, IsInReach, ValueFits}
-use Rattle.js_machine.proofs.fitting.Growth.{Grows, stays, grows_on, started, is_there, later_reach, later_value}
+use Rattle.js_machine.proofs.fitting.Growth.{grows_on, started, is_there, later_reach, later_value}
 use Rattle.js_machine.proofs.fitting.natives.Family as asks
 use Rattle.js_machine.proofs.fitting.natives.Family.{NativeFits}
 use Rattle.js_machine.proofs.fitting.natives.Convert.{Row, made_text_fits, this_object_fits, argument_fits}

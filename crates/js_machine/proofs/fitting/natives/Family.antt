@@ -13,7 +13,6 @@ use Rattle.js_natives.specs.declared.answer.Answer.TheVariants as answer
 use Rattle.js_natives.specs.declared.answer.ErrorKind.{ErrorKind}
 use Rattle.js_natives.specs.Asks.{Asks}
 use Rattle.js_natives.specs.Program.{Program, Done, Step, Text, Number, Get, Put, Listen, Make, ClassOf, Own, Behind, Write, Delete}
-use Rattle.js_machine.specs.Reachable as fits
 use Rattle.js_machine.specs.Reachable.{Each, Counts, IsObject, IsInReach, ValueFits}
 use Rattle.js_machine.proofs.fitting.Growth.{Grows, grows_on, later_object, later_reach, later_value}
 

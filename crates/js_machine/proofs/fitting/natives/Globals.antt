@@ -1,5 +1,5 @@
 -- The functions of the global object, and `on` of `host`.
-use Rattle.std.proofs.Common.{ℕ, ◌&&◌, ◌==◌, Bool, List, [], ◌∷◌}
+use Rattle.std.proofs.Common.{ℕ, ◌&&◌, ◌==◌, Bool, [], ◌∷◌}
 use Rattle.std.specs.Prelude.{nat_le, ℤ, pos, negsuc, Result, Ok, Err}
 use Rattle.std.specs.Str.Parse.{digits_value}
 use Rattle.js_values.specs.declared.number.Num.{Num}
@@ -13,12 +13,12 @@ use Rattle.object_heap.specs.declared.object.Class.{Class}
 use Rattle.object_heap.specs.declared.object.Class.TheVariants as class
 use Rattle.object_heap.specs.Names.{Name}
 use Rattle.js_natives.specs.Asks.{number_answer}
-use Rattle.js_natives.specs.Convert.{argument, text_at, number_at}
-use Rattle.js_natives.specs.Globals.{digits_in, signed_value, number_or_stop, number_of_digits, digits_number, has_prefix, perhaps_hexadecimal, by_radix, parsed, parse_int, listening, listening_by, on}
-use Rattle.js_natives.specs.Program.{Program, Done}
+use Rattle.js_natives.specs.Convert.{text_at, number_at}
+use Rattle.js_natives.specs.Globals.{digits_in, signed_value, number_or_stop, number_of_digits, digits_number, has_prefix, perhaps_hexadecimal, by_radix, parse_int, listening, listening_by, on}
+use Rattle.js_natives.specs.Program.{Done}
 use Rattle.js_machine.specs.Reachable as fits
 use Rattle.js_machine.specs.Reachable.{Counts, IsInReach, ValueFits}
-use Rattle.js_machine.proofs.fitting.Growth.{Grows, stays, grows_on, later_reach}
+use Rattle.js_machine.proofs.fitting.Growth.{later_reach}
 use Rattle.js_machine.proofs.fitting.natives.Family as asks
 use Rattle.js_machine.proofs.fitting.natives.Family.{NativeFits, chosen}
 use Rattle.js_machine.proofs.fitting.natives.Convert.{Row, argument_fits}

@@ -1,14 +1,14 @@
 -- The natives of Array.prototype that move elements.
 use Rattle.std.proofs.Common.{ℕ, zero, suc, ◌+◌, ◌-◌, ◌/◌, Bool, true, false, List, [], ◌∷◌}
-use Rattle.std.specs.Prelude.{min, is_some, nat_lt, drop}
+use Rattle.std.specs.Prelude.{min, is_some, nat_lt}
 use Rattle.js_values.specs.declared.value.Value.{Value}
-use Rattle.js_natives.specs.Convert.{argument, count_of, from_either_end, integer_of}
+use Rattle.js_natives.specs.Convert.{count_of, from_either_end, integer_of}
 use Rattle.js_natives.specs.Indices.{indices, downward}
 use Rattle.js_natives.specs.Moves.{moved_one, moved, exchanged, reversed, reverse, shifted, shift, converted_end, end_of, copies, copied_part, sliced, slice, at_least_zero, put_elements, deletes, closed_or_opened, spliced, splice, unshifted, unshift}
 use Rattle.js_natives.specs.Program.{Program, Done}
 use Rattle.js_machine.specs.Reachable as fits
 use Rattle.js_machine.specs.Reachable.{Each, Counts, IsInReach, ValueFits}
-use Rattle.js_machine.proofs.fitting.Growth.{Grows, stays, grows_on, is_there, later_reach, later_value, later_values}
+use Rattle.js_machine.proofs.fitting.Growth.{stays, grows_on, is_there, later_reach, later_value, later_values}
 use Rattle.js_machine.proofs.fitting.natives.Family as asks
 use Rattle.js_machine.proofs.fitting.natives.Family.{NativeFits, OnAll, later_native, either}
 use Rattle.js_machine.proofs.fitting.natives.Convert.{Row, this_object_fits, argument_fits, behind_two}

@@ -1,5 +1,5 @@
 -- Every native.
-use Rattle.std.proofs.Common.{ℕ, ◌≤◌, List, arith}
+use Rattle.std.proofs.Common.{List, arith}
 use Rattle.js_values.specs.declared.value.Value.{Value}
 use Rattle.object_heap.specs.declared.built_in.BuiltIn.TheVariants as built
 use Rattle.js_natives.specs.declared.answer.Answer.{Answer}
@@ -11,7 +11,7 @@ use Rattle.js_natives.specs.MathNatives.{greater_of, less_of}
 use Rattle.js_natives.specs.Natives.{Plan, Converts, Goes, Enters, plan_of, planned, program_of}
 use Rattle.js_machine.specs.Reachable as fits
 use Rattle.js_machine.specs.Reachable.{Each, Counts, ValueFits}
-use Rattle.js_machine.proofs.fitting.Growth.{Grows, stays, grows_on, later_value, later_values}
+use Rattle.js_machine.proofs.fitting.Growth.{later_value, later_values}
 use Rattle.js_machine.proofs.fitting.natives.Family as asks
 use Rattle.js_machine.proofs.fitting.natives.Family.{NativeFits}
 use Rattle.js_machine.proofs.fitting.natives.Convert.{Row, this_converted_fits, arguments_converted_fit}
@@ -22,7 +22,6 @@ use Rattle.js_machine.proofs.fitting.natives.Strings.{string_fits, from_char_cod
 use Rattle.js_machine.proofs.fitting.natives.Numbers.{number_function_fits, number_to_string_fits, number_value_of_fits, boolean_to_string_fits, boolean_value_of_fits, chosen_of_fits}
 use Rattle.js_machine.proofs.fitting.natives.Errors.{error_fits, error_to_string_fits}
 use Rattle.js_machine.proofs.fitting.natives.Globals.{parse_int_fits, on_fits}
-
 
 data PlanFits : Plan → Type 0 where
   converts : {takes : Takes} {row : Value → List Value → Asks Answer} → Row row → PlanFits (Converts takes row)

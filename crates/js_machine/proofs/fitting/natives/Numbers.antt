@@ -9,7 +9,7 @@ use Rattle.js_natives.specs.Asks.{throw, text_answer}
 use Rattle.js_natives.specs.Convert.{argument}
 use Rattle.js_natives.specs.MathNatives.{chosen_of}
 use Rattle.js_natives.specs.Numbers.{number_function, text_in_radix, radix_of, number_to_string, number_value_of, boolean_to_string, boolean_value_of}
-use Rattle.js_natives.specs.Program.{Program, Done}
+use Rattle.js_natives.specs.Program.{Done}
 use Rattle.js_machine.specs.Reachable as fits
 use Rattle.js_machine.specs.Reachable.{Each, Counts, ValueFits}
 use Rattle.js_machine.proofs.fitting.natives.Family as asks

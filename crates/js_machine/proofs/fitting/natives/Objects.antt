@@ -1,5 +1,5 @@
 -- Object and Object.prototype, and `toString` of Function.prototype.
-use Rattle.std.proofs.Common.{ℕ, ◌≤◌, Bool, false, arith}
+use Rattle.std.proofs.Common.{ℕ, arith}
 use Rattle.js_values.specs.declared.reason.Reason.TheVariants as reason
 use Rattle.js_values.specs.declared.value.Value.{Value}
 use Rattle.object_heap.specs.declared.built_in.BuiltIn.TheVariants as built
@@ -8,12 +8,12 @@ use Rattle.object_heap.specs.declared.object.Class.TheVariants as class
 use Rattle.object_heap.specs.BuiltIns.{number_of}
 use Rattle.object_heap.specs.Names.{Name, is_reserved}
 use Rattle.js_natives.specs.Asks.{pure, stop}
-use Rattle.js_natives.specs.Convert.{argument, text_at}
+use Rattle.js_natives.specs.Convert.{text_at}
 use Rattle.js_natives.specs.Objects.{new_object, object_of, object, object_to_string, object_value_of, unreserved, has_own_property, is_prototype_of_value, is_prototype_of, property_is_enumerable, text_of_class, function_to_string}
 use Rattle.js_natives.specs.Program.{Program, Done}
 use Rattle.js_machine.specs.Reachable as fits
 use Rattle.js_machine.specs.Reachable.{Counts, IsInReach, ValueFits}
-use Rattle.js_machine.proofs.fitting.Growth.{Grows, stays, grows_on, started, is_there, later_value}
+use Rattle.js_machine.proofs.fitting.Growth.{started, is_there, later_value}
 use Rattle.js_machine.proofs.fitting.natives.Family as asks
 use Rattle.js_machine.proofs.fitting.natives.Family.{NativeFits, chosen}
 use Rattle.js_machine.proofs.fitting.natives.Convert.{Row, this_object_fits, argument_fits}

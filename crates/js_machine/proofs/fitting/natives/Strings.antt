@@ -2,16 +2,15 @@
 use Rattle.std.proofs.Common.{List, [], ◌∷◌, ◌++◌}
 use Rattle.std.specs.Prelude.{map, take}
 use Rattle.std.specs.List.{flat_map}
-use Rattle.js_values.specs.declared.value.Value.{Value}
 use Rattle.js_values.specs.declared.value.Value.TheVariants as value
 use Rattle.object_heap.specs.Names.{Name}
 use Rattle.js_natives.specs.Convert as convert
 use Rattle.js_natives.specs.Convert.{text_in, number_in, uint16_of}
-use Rattle.js_natives.specs.Program.{Program, Done}
+use Rattle.js_natives.specs.Program.{Done}
 use Rattle.js_natives.specs.Strings.{string, from_char_code, string_value, string_concat, array_of_texts, limit_of, split_text, split}
 use Rattle.js_machine.specs.Reachable as fits
 use Rattle.js_machine.specs.Reachable.{Each, Counts, ValueFits}
-use Rattle.js_machine.proofs.fitting.Growth.{Grows, stays, grows_on, later_value}
+use Rattle.js_machine.proofs.fitting.Growth.{grows_on, later_value}
 use Rattle.js_machine.proofs.fitting.natives.Family as asks
 use Rattle.js_machine.proofs.fitting.natives.Family.{NativeFits}
 use Rattle.js_machine.proofs.fitting.natives.Convert.{Row, text_ended, this_text_fits, this_converted_fits, argument_converted_fits, argument_fits}
