@@ -1,6 +1,6 @@
 -- What holds of each of a list.
-use Rattle.std.proofs.Common.{◌≡◌, ℕ, zero, suc, ◌<◌, List, [], ◌∷◌, ◌++◌, length, refl, ap, arith}
-use Rattle.std.specs.Prelude.{Option, Some, option_map, slice_get, slice_set, take, if◌then◌else◌, Bool, true, false}
+use Rattle.std.proofs.Common.{◌≡◌, ℕ, zero, suc, List, [], ◌∷◌, ◌++◌, length, refl, ap}
+use Rattle.std.specs.Prelude.{Option, option_map, slice_get, slice_set, take, if◌then◌else◌, Bool, true, false}
 use Rattle.js_machine.specs.Reachable.{Each, empty, more, IfAny, nothing, just}
 
 pub each_so : {A : Type 0} {P Q : A → Type 0} → ((x : A) → P x → Q x) → {xs : List A} → Each P xs → Each Q xs
@@ -46,9 +46,3 @@ pub length_set : {A : Type 0} (xs : List A) (i : ℕ) (x : A) → length (slice_
 length_set [] i x = refl
 length_set (y ∷ ys) zero x = refl
 length_set (y ∷ ys) (suc i) x = ap suc (length_set ys i x)
-
--- what is there has a number below the length
-pub got_below : {A : Type 0} (xs : List A) (i : ℕ) (x : A) → slice_get xs i ≡ Some x → i < length xs
-got_below [] i x e = absurd cc
-got_below (y ∷ ys) zero x e = omega arith
-got_below (y ∷ ys) (suc i) x e = let lt = got_below ys i x e in omega (arith, lt)
