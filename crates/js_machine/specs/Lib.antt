@@ -22,4 +22,3 @@ pub mod Page
 pub mod Logs
 pub mod Laws
 pub mod Reachable
-pub mod KindScripts
