@@ -295,6 +295,7 @@ impl PairCodes {
 
     /// The pair at an index. None is behind the last one.
     #[inline]
+    #[tactic(auto, using(crate::proofs::Cursors::pair_at))]
     pub fn get(&self, at: usize) -> Option<&PairCode>
         ensures { MatchOption result
             (pairs_from self.now at ≡ NoPairs)

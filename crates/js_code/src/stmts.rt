@@ -270,6 +270,7 @@ impl VarCodes {
 
     /// The declarator at an index. None is behind the last one.
     #[inline]
+    #[tactic(auto, using(crate::proofs::Cursors::var_item_at))]
     pub fn get(&self, at: usize) -> Option<&VarCode>
         ensures { MatchOption result
             (var_items_from self.now at ≡ NoVarItems)
@@ -309,6 +310,7 @@ impl CaseCodes {
 
     /// The clause at an index. None is behind the last one.
     #[inline]
+    #[tactic(auto, using(crate::proofs::Cursors::clause_at))]
     pub fn get(&self, at: usize) -> Option<&CaseCode>
         ensures { MatchOption result
             (cases_from self.now at ≡ NoCases)
