@@ -2,6 +2,7 @@
 //! that a frame or a function object holds a part of a program at no cost.
 #![tactic(auto)]
 
+mod costs;
 mod exprs;
 mod funcs;
 mod stmts;

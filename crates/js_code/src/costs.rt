@@ -1,0 +1,141 @@
+//! What a node keeps of the steps of an expression without effects.
+
+ghost use Rattle.std.specs.Prelude.{◌≡◌, IfOk};
+ghost use Rattle.js_tree.specs.declared.tree.Expr.TheOpen.{Expr-F};
+ghost use Rattle.js_tree.specs.declared.tree.Expr.TheViews.{roll-Expr};
+ghost use Rattle.js_tree.specs.Plain as view;
+ghost use Rattle.js_code.specs.Costs as spec;
+ghost use Rattle.js_code.specs.Costs.{CostFits, IsCost, joined, raised, told};
+ghost use Rattle.js_code.specs.View.{expr_node_tree};
+
+use crate::exprs::{ExprCode, ExprNode};
+use js_tree::{BinaryOp, PrefixOp};
+use std::alloc::{AllocError, Global};
+
+impl ExprCode {
+    /// A prefix operation, with its cost.
+    #[tactic(auto, using(crate::proofs::ToldCosts::prefix_told))]
+    pub(crate) fn prefix(
+        alloc: Global,
+        op: PrefixOp,
+        operand: ExprCode,
+    ) -> Result<ExprCode, AllocError>
+        ensures { IfOk result (λ code. code ≡ roll-Expr (Expr-F.Prefix op operand)) }
+    {
+        let cost = prefix_cost(op, operand.cost());
+        ExprCode::new(alloc, ExprNode::Prefix(op, cost, operand))
+    }
+
+    /// A binary operation, with its cost.
+    #[tactic(auto, using(crate::proofs::ToldCosts::binary_told))]
+    pub(crate) fn binary(
+        alloc: Global,
+        op: BinaryOp,
+        left: ExprCode,
+        right: ExprCode,
+    ) -> Result<ExprCode, AllocError>
+        ensures { IfOk result (λ code. code ≡ roll-Expr (Expr-F.Binary op left right)) }
+    {
+        let cost = binary_cost(op, left.cost(), right.cost());
+        ExprCode::new(alloc, ExprNode::Binary(op, cost, left, right))
+    }
+
+    /// How many steps the expression takes, in constant time, if it is a name, a literal or `this`,
+    /// or an operation on such that has no effect of its own where they are no objects. Of any
+    /// other, and of more than 1,000 steps, it is 0.
+    #[inline]
+    pub fn cost(&self) -> u32
+        ensures exactly { result ≡ told (spec.cost (view.expr self.now)) }
+        ensures steps { IsCost result (view.expr self.now) }
+    {
+        self.node().cost()
+    }
+}
+
+impl ExprNode {
+    #[inline]
+    fn cost(&self) -> u32
+        requires { CostFits self.now }
+        ensures { result ≡ told (spec.cost (expr_node_tree self.now)) }
+    {
+        match self {
+            ExprNode::Num(_)
+            | ExprNode::Str(_)
+            | ExprNode::Bool(_)
+            | ExprNode::Null
+            | ExprNode::This
+            | ExprNode::Name(_) => 1,
+            ExprNode::Prefix(_, cost, _) | ExprNode::Binary(_, cost, _, _) => *cost,
+            ExprNode::Array(_)
+            | ExprNode::Object(_)
+            | ExprNode::Func(_)
+            | ExprNode::Dot(_, _)
+            | ExprNode::Index(_, _)
+            | ExprNode::Call(_, _)
+            | ExprNode::New(_, _)
+            | ExprNode::Postfix(_, _)
+            | ExprNode::And(_, _)
+            | ExprNode::Or(_, _)
+            | ExprNode::Comma(_, _)
+            | ExprNode::Cond(_, _, _)
+            | ExprNode::Assign(_, _, _)
+            | ExprNode::Late(_) => 0,
+        }
+    }
+}
+
+/// The cost of a prefix operation on what has this cost (ES3 11.4).
+fn prefix_cost(op: PrefixOp, operand: u32) -> u32
+    ensures { result ≡ told (spec.prefix_cost op operand) }
+{
+    match op {
+        PrefixOp::Void | PrefixOp::Plus | PrefixOp::Minus | PrefixOp::BitNot | PrefixOp::Not => {
+            one_more(operand)
+        }
+        PrefixOp::Delete | PrefixOp::TypeOf | PrefixOp::Increment | PrefixOp::Decrement => 0,
+    }
+}
+
+/// The cost of a binary operation on what has these costs (ES3 11.5 to 11.10).
+fn binary_cost(op: BinaryOp, left: u32, right: u32) -> u32
+    ensures { result ≡ told (spec.binary_cost op left right) }
+{
+    match op {
+        BinaryOp::InstanceOf | BinaryOp::In => 0,
+        BinaryOp::BitOr
+        | BinaryOp::BitXor
+        | BinaryOp::BitAnd
+        | BinaryOp::Equal
+        | BinaryOp::NotEqual
+        | BinaryOp::Same
+        | BinaryOp::NotSame
+        | BinaryOp::Less
+        | BinaryOp::Greater
+        | BinaryOp::LessEqual
+        | BinaryOp::GreaterEqual
+        | BinaryOp::ShiftLeft
+        | BinaryOp::ShiftRight
+        | BinaryOp::ShiftRightUnsigned
+        | BinaryOp::Add
+        | BinaryOp::Subtract
+        | BinaryOp::Multiply
+        | BinaryOp::Divide
+        | BinaryOp::Remainder => sum(left, right),
+    }
+}
+
+fn one_more(operand: u32) -> u32
+    ensures { result ≡ told (raised operand) }
+{
+    if operand == 0 || operand >= 1_000 { 0 } else { operand + 1 }
+}
+
+fn sum(left: u32, right: u32) -> u32
+    ensures { result ≡ told (joined left right) }
+{
+    if left == 0 || right == 0 || left >= 1_000 || right >= 1_000 || left + right >= 1_000 {
+        0
+    } else {
+        left + right + 1
+    }
+}
