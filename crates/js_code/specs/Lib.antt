@@ -5,3 +5,4 @@ pub mod Bound
 pub mod Nodes
 pub mod Falls
 pub mod Cursors
+pub mod Projections

@@ -1,8 +1,10 @@
-ghost use Rattle.std.specs.Prelude.{◌≡◌, IfOk, map, option_copied};
+ghost use Rattle.std.specs.Prelude.{◌≡◌, IfOk, map};
+ghost use Rattle.std.specs.Option.{option_copied};
 ghost use Rattle.js_tree.specs.declared.tree.Expr.TheViews.{roll-Func};
 ghost use Rattle.js_tree.specs.Plain as view;
 ghost use Rattle.js_calls.specs.Declared.{functions_of, vars_in_all};
 ghost use Rattle.js_code.specs.Bound.{Lists};
+ghost use Rattle.js_code.specs.Projections.{body_of, formals_of, name_of, number_of, role_of};
 ghost use Rattle.js_code.specs.View.{func_layer, func_node_tree};
 
 use crate::stmts::StmtCodes;
@@ -48,7 +50,8 @@ impl Model for FuncCode {
     ghost coded = { Prim.hlevel (codes, t.the_row.coded) };
 
     ghost use Rattle.js_tree.specs.declared.tree.Expr.TheViews.{roll-Func};
-    ghost use Rattle.js_code.specs.View.{func_layer};
+    ghost use Rattle.js_code.specs.Projections.{body_of, formals_of, name_of, number_of, role_of};
+ghost use Rattle.js_code.specs.View.{func_layer};
     ghost use Rattle.js_code.specs.Size.{func_size};
 
     ghost view = { λ c. roll-Func (func_layer c.node.value) };
@@ -100,6 +103,46 @@ impl FuncCode {
         ensures { view.func self.now ≡ func_node_tree result.now }
     {
         &self.node
+    }
+
+    /// Its number among the functions of all scripts, from 1 on.
+    #[inline]
+    pub fn number(&self) -> u32
+        ensures { result ≡ number_of (view.func self.now) }
+    {
+        self.node().number
+    }
+
+    /// Its name, if it has one.
+    #[inline]
+    pub fn name(&self) -> Option<&Units>
+        ensures { option_copied result ≡ name_of (view.func self.now) }
+    {
+        self.node().name.as_ref()
+    }
+
+    /// The names of its formal parameters, in order.
+    #[inline]
+    pub fn formals(&self) -> &Names
+        ensures { result.now ≡ formals_of (view.func self.now) }
+    {
+        &self.node().formals
+    }
+
+    /// Its body, with what it binds.
+    #[inline]
+    pub fn body(&self) -> &BodyCode
+        ensures { view.body result.now ≡ body_of (view.func self.now) }
+    {
+        &self.node().body
+    }
+
+    /// What it is in a written text.
+    #[inline]
+    pub fn role(&self) -> Role
+        ensures { result ≡ role_of (view.func self.now) }
+    {
+        self.node().role
     }
 
     /// One more owner, in constant time.

@@ -5,10 +5,12 @@
 mod costs;
 mod exprs;
 mod funcs;
+mod parts;
 mod stmts;
 
 pub use exprs::{ElementCodes, ExprCode, ExprCodes, ExprNode, PairCode, PairCodes};
 pub use funcs::{BodyCode, FuncCode, FuncNode};
+pub use parts::{CondParts, ForInParts, IfParts, LoopParts, TryParts};
 pub use stmts::{
     CaseCode, CaseCodes, ForInitNode, ForTargetNode, StmtCode, StmtCodes, StmtNode, VarCode,
     VarCodes,
