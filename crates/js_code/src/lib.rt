@@ -2,6 +2,7 @@
 //! that a frame or a function object holds a part of a program at no cost.
 #![tactic(auto)]
 
+mod bindings;
 mod costs;
 mod exprs;
 mod funcs;
