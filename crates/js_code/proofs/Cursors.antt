@@ -37,10 +37,10 @@ pub pair_at
     → pairs_from ps i ≡ MorePairs p.key (view.expr p.value) (pairs_from ps (i + 1))
 pair_at items ps i p same h e =
     let at_item : pairs_from (map pair_of items) i
-            ≡ MorePairs p.key (view.expr p.value) (pairs_from (map pair_of items) (i + 1)) =
-        ap parts.pairs (mapped_at pair_of items i p h e)
-        ∙ ap (λ (q : view.PairPart).
-        MorePairs q.key q.value (pairs_from (map pair_of items) (i + 1))) (pair_is p)
+    ≡ MorePairs p.key (view.expr p.value) (pairs_from (map pair_of items) (i + 1)) =
+    ap parts.pairs (mapped_at pair_of items i p h e)
+    ∙ ap (λ (q : view.PairPart).
+    MorePairs q.key q.value (pairs_from (map pair_of items) (i + 1))) (pair_is p)
     in
     subst (λ (l : List Pair).
     pairs_from l i ≡ MorePairs p.key (view.expr p.value) (pairs_from l (i + 1))) same at_item
@@ -52,11 +52,11 @@ pub var_item_at
     ≡ MoreVarItems v.name (parts.maybe_expr v.value) (var_items_from vs (i + 1))
 var_item_at items vs i v same h e =
     let at_item : var_items_from (map var_item_of items) i
-            ≡ MoreVarItems v.name (parts.maybe_expr v.value)
-            (var_items_from (map var_item_of items) (i + 1)) =
-        ap parts.var_items (mapped_at var_item_of items i v h e)
-        ∙ ap (λ (q : view.VarPart).
-        MoreVarItems q.name q.value (var_items_from (map var_item_of items) (i + 1))) (var_item_is v)
+    ≡ MoreVarItems v.name (parts.maybe_expr v.value)
+    (var_items_from (map var_item_of items) (i + 1)) =
+    ap parts.var_items (mapped_at var_item_of items i v h e)
+    ∙ ap (λ (q : view.VarPart).
+    MoreVarItems q.name q.value (var_items_from (map var_item_of items) (i + 1))) (var_item_is v)
     in
     subst (λ (l : List VarItem).
     var_items_from l i ≡ MoreVarItems v.name (parts.maybe_expr v.value) (var_items_from l (i + 1)))
@@ -69,11 +69,11 @@ pub clause_at
     ≡ MoreCases (parts.maybe_expr c.test) (view.body c.body) (cases_from cs (i + 1))
 clause_at items cs i c same h e =
     let at_item : cases_from (map case_of items) i
-            ≡ MoreCases (parts.maybe_expr c.test) (view.body c.body)
-            (cases_from (map case_of items) (i + 1)) =
-        ap parts.cases (mapped_at case_of items i c h e)
-        ∙ ap (λ (q : view.CasePart).
-        MoreCases q.test q.body (cases_from (map case_of items) (i + 1))) (case_is c)
+    ≡ MoreCases (parts.maybe_expr c.test) (view.body c.body)
+    (cases_from (map case_of items) (i + 1)) =
+    ap parts.cases (mapped_at case_of items i c h e)
+    ∙ ap (λ (q : view.CasePart).
+    MoreCases q.test q.body (cases_from (map case_of items) (i + 1))) (case_is c)
     in
     subst (λ (l : List Case).
     cases_from l i

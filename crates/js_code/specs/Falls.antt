@@ -82,9 +82,13 @@ case_part (Some e) body = omega arith
 pub cases_fall : (cs : List CaseCode) → most deep-CaseCode cs ≤ cases_size (map case_of cs)
 cases_fall [] = omega arith
 cases_fall (c ∷ cs) =
-    omega (arith, cases_fall cs, case_part c.test c.body,
-    ap (λ (p : view.CasePart). maybe_expr_height by_code p.test) (case_is c),
-    ap (λ (p : view.CasePart). stmts_height by_code p.body) (case_is c))
+    omega (
+      arith,
+      cases_fall cs,
+      case_part c.test c.body,
+      ap (λ (p : view.CasePart). maybe_expr_height by_code p.test) (case_is c),
+      ap (λ (p : view.CasePart). stmts_height by_code p.body) (case_is c),
+    )
 
 -- ---- nodes
 

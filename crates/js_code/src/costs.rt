@@ -1,45 +1,16 @@
 //! What a node keeps of the steps of an expression without effects.
 
-ghost use Rattle.std.specs.Prelude.{◌≡◌, IfOk};
+ghost use Rattle.std.specs.Prelude.{◌≡◌};
 ghost use Rattle.js_tree.specs.declared.tree.Expr.TheOpen.{Expr-F};
-ghost use Rattle.js_tree.specs.declared.tree.Expr.TheViews.{roll-Expr};
 ghost use Rattle.js_tree.specs.Plain as view;
 ghost use Rattle.js_code.specs.Costs as spec;
 ghost use Rattle.js_code.specs.Costs.{CostFits, IsCost, joined, raised, told};
-ghost use Rattle.js_code.specs.View.{expr_node_tree};
+ghost use Rattle.js_code.specs.View.{expr_layer, expr_node_tree};
 
 use crate::exprs::{ExprCode, ExprNode};
 use js_tree::{BinaryOp, PrefixOp};
-use std::alloc::{AllocError, Global};
 
 impl ExprCode {
-    /// A prefix operation, with its cost.
-    #[tactic(auto, using(crate::proofs::ToldCosts::prefix_told))]
-    pub(crate) fn prefix(
-        alloc: Global,
-        op: PrefixOp,
-        operand: ExprCode,
-    ) -> Result<ExprCode, AllocError>
-        ensures { IfOk result (λ code. code ≡ roll-Expr (Expr-F.Prefix op operand)) }
-    {
-        let cost = prefix_cost(op, operand.cost());
-        ExprCode::new(alloc, ExprNode::Prefix(op, cost, operand))
-    }
-
-    /// A binary operation, with its cost.
-    #[tactic(auto, using(crate::proofs::ToldCosts::binary_told))]
-    pub(crate) fn binary(
-        alloc: Global,
-        op: BinaryOp,
-        left: ExprCode,
-        right: ExprCode,
-    ) -> Result<ExprCode, AllocError>
-        ensures { IfOk result (λ code. code ≡ roll-Expr (Expr-F.Binary op left right)) }
-    {
-        let cost = binary_cost(op, left.cost(), right.cost());
-        ExprCode::new(alloc, ExprNode::Binary(op, cost, left, right))
-    }
-
     /// How many steps the expression takes, in constant time, if it is a name, a literal or `this`,
     /// or an operation on such that has no effect of its own where they are no objects. Of any
     /// other, and of more than 1,000 steps, it is 0.
@@ -53,6 +24,26 @@ impl ExprCode {
 }
 
 impl ExprNode {
+    /// A prefix operation, with its cost.
+    #[tactic(auto, using(crate::proofs::ToldCosts::prefix_told))]
+    pub(crate) fn prefix(op: PrefixOp, operand: ExprCode) -> ExprNode
+        ensures layer { expr_layer result ≡ Expr-F.Prefix op operand }
+        ensures cost { CostFits result }
+    {
+        let cost = prefix_cost(op, operand.cost());
+        ExprNode::Prefix(op, cost, operand)
+    }
+
+    /// A binary operation, with its cost.
+    #[tactic(auto, using(crate::proofs::ToldCosts::binary_told))]
+    pub(crate) fn binary(op: BinaryOp, left: ExprCode, right: ExprCode) -> ExprNode
+        ensures layer { expr_layer result ≡ Expr-F.Binary op left right }
+        ensures cost { CostFits result }
+    {
+        let cost = binary_cost(op, left.cost(), right.cost());
+        ExprNode::Binary(op, cost, left, right)
+    }
+
     #[inline]
     fn cost(&self) -> u32
         requires { CostFits self.now }
@@ -127,7 +118,11 @@ fn binary_cost(op: BinaryOp, left: u32, right: u32) -> u32
 fn one_more(operand: u32) -> u32
     ensures { result ≡ told (raised operand) }
 {
-    if operand == 0 || operand >= 1_000 { 0 } else { operand + 1 }
+    if operand == 0 || operand >= 1_000 {
+        0
+    } else {
+        operand + 1
+    }
 }
 
 fn sum(left: u32, right: u32) -> u32

@@ -226,7 +226,11 @@ impl ExprCodes {
             (λ e. exprs_from self.now at ≡ MoreExprs (view.expr e.now) (exprs_from self.now (at + 1))) }
     {
         let items = self.items();
-        if at < items.len() { Some(&items[at]) } else { None }
+        if at < items.len() {
+            Some(&items[at])
+        } else {
+            None
+        }
     }
 
     /// One more owner, in constant time.
@@ -240,7 +244,10 @@ impl ExprCodes {
 }
 
 impl ElementCodes {
-    pub(crate) fn new(alloc: Global, items: Vec<Option<ExprCode>>) -> Result<ElementCodes, AllocError>
+    pub(crate) fn new(
+        alloc: Global,
+        items: Vec<Option<ExprCode>>,
+    ) -> Result<ElementCodes, AllocError>
         ensures { IfOk result (λ codes. codes ≡ items.items) }
     {
         let items = Rc::new(alloc, items)?;
@@ -264,7 +271,11 @@ impl ElementCodes {
             ≡ MoreElements (parts.maybe_expr e.now) (elements_from self.now (at + 1))) }
     {
         let items = self.items();
-        if at < items.len() { Some(&items[at]) } else { None }
+        if at < items.len() {
+            Some(&items[at])
+        } else {
+            None
+        }
     }
 
     /// One more owner, in constant time.
@@ -303,7 +314,11 @@ impl PairCodes {
             ≡ MorePairs p.now.key (view.expr p.now.value) (pairs_from self.now (at + 1))) }
     {
         let items = self.items();
-        if at < items.len() { Some(&items[at]) } else { None }
+        if at < items.len() {
+            Some(&items[at])
+        } else {
+            None
+        }
     }
 
     /// One more owner, in constant time.

@@ -51,7 +51,7 @@ impl Model for FuncCode {
 
     ghost use Rattle.js_tree.specs.declared.tree.Expr.TheViews.{roll-Func};
     ghost use Rattle.js_code.specs.Projections.{body_of, formals_of, name_of, number_of, role_of};
-ghost use Rattle.js_code.specs.View.{func_layer};
+    ghost use Rattle.js_code.specs.View.{func_layer};
     ghost use Rattle.js_code.specs.Size.{func_size};
 
     ghost view = { λ c. roll-Func (func_layer c.node.value) };
@@ -160,7 +160,11 @@ impl BodyCode {
         requires { Lists functions.items variables statements }
         ensures { result ≡ statements }
     {
-        BodyCode { statements, functions, variables }
+        BodyCode {
+            statements,
+            functions,
+            variables,
+        }
     }
 
     /// The statements in order.

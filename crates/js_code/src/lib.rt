@@ -3,6 +3,7 @@
 #![tactic(auto)]
 
 mod bindings;
+mod convert;
 mod costs;
 mod exprs;
 mod funcs;

@@ -56,9 +56,10 @@ impl ExprCode {
         ensures { MatchOption result
             (cond_parts (view.expr self.now) ≡ None)
             (λ p. cond_parts (view.expr self.now) ≡ Some (record {
-                test = view.expr p.test.now;
-                first = view.expr p.then.now;
-                second = view.expr p.other.now })) }
+              test = view.expr p.test.now;
+              first = view.expr p.then.now;
+              second = view.expr p.other.now;
+            })) }
     {
         match self.node() {
             ExprNode::Cond(test, then, other) => Some(CondParts { test, then, other }),
@@ -94,9 +95,10 @@ impl StmtCode {
         ensures { MatchOption result
             (if_parts (view.stmt self.now) ≡ None)
             (λ p. if_parts (view.stmt self.now) ≡ Some (record {
-                test = view.expr p.test.now;
-                first = view.stmt p.then.now;
-                second = parts.maybe_stmt (option_copied p.other) })) }
+              test = view.expr p.test.now;
+              first = view.stmt p.then.now;
+              second = parts.maybe_stmt (option_copied p.other);
+            })) }
     {
         match self.node() {
             StmtNode::If(test, then, other) => Some(IfParts {
@@ -130,9 +132,10 @@ impl StmtCode {
         ensures { MatchOption result
             (loop_parts (view.stmt self.now) ≡ None)
             (λ p. loop_parts (view.stmt self.now) ≡ Some (record {
-                test = parts.maybe_expr (option_copied p.test);
-                update = parts.maybe_expr (option_copied p.update);
-                body = view.stmt p.body.now })) }
+              test = parts.maybe_expr (option_copied p.test);
+              update = parts.maybe_expr (option_copied p.update);
+              body = view.stmt p.body.now;
+            })) }
     {
         match self.node() {
             StmtNode::DoWhile(body, test) | StmtNode::While(test, body) => Some(LoopParts {
@@ -169,9 +172,10 @@ impl StmtCode {
         ensures { MatchOption result
             (for_in_parts (view.stmt self.now) ≡ None)
             (λ p. for_in_parts (view.stmt self.now) ≡ Some (record {
-                target = for_target_tree p.target.now;
-                object = view.expr p.object.now;
-                body = view.stmt p.body.now })) }
+              target = for_target_tree p.target.now;
+              object = view.expr p.object.now;
+              body = view.stmt p.body.now;
+            })) }
     {
         match self.node() {
             StmtNode::ForIn(target, object, body) => Some(ForInParts {
@@ -205,9 +209,10 @@ impl StmtCode {
         ensures { MatchOption result
             (try_parts (view.stmt self.now) ≡ None)
             (λ p. try_parts (view.stmt self.now) ≡ Some (record {
-                block = view.stmt p.block.now;
-                handler = parts.handler p.handler.now;
-                last = parts.maybe_stmt (option_copied p.last) })) }
+              block = view.stmt p.block.now;
+              handler = parts.handler p.handler.now;
+              last = parts.maybe_stmt (option_copied p.last);
+            })) }
     {
         match self.node() {
             StmtNode::Try(block, handler, last) => Some(TryParts {

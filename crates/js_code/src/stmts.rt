@@ -239,7 +239,11 @@ impl StmtCodes {
             (λ s. stmts_from self.now at ≡ MoreStmts (view.stmt s.now) (stmts_from self.now (at + 1))) }
     {
         let items = self.items();
-        if at < items.len() { Some(&items[at]) } else { None }
+        if at < items.len() {
+            Some(&items[at])
+        } else {
+            None
+        }
     }
 
     /// One more owner, in constant time.
@@ -279,7 +283,11 @@ impl VarCodes {
             (var_items_from self.now (at + 1))) }
     {
         let items = self.items();
-        if at < items.len() { Some(&items[at]) } else { None }
+        if at < items.len() {
+            Some(&items[at])
+        } else {
+            None
+        }
     }
 
     /// One more owner, in constant time.
@@ -319,7 +327,11 @@ impl CaseCodes {
             (cases_from self.now (at + 1))) }
     {
         let items = self.items();
-        if at < items.len() { Some(&items[at]) } else { None }
+        if at < items.len() {
+            Some(&items[at])
+        } else {
+            None
+        }
     }
 
     /// One more owner, in constant time.
