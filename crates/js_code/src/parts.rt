@@ -14,6 +14,7 @@ use crate::stmts::{ForTargetNode, StmtCode, StmtNode};
 use dl_text::Units;
 
 /// The parts of a conditional expression (ES3 11.12).
+#[derive(Clone, Copy)]
 pub struct CondParts<'a> {
     pub test: &'a ExprCode,
     pub then: &'a ExprCode,
@@ -21,6 +22,7 @@ pub struct CondParts<'a> {
 }
 
 /// The parts of an `if` (ES3 12.5).
+#[derive(Clone, Copy)]
 pub struct IfParts<'a> {
     pub test: &'a ExprCode,
     pub then: &'a StmtCode,
@@ -28,6 +30,7 @@ pub struct IfParts<'a> {
 }
 
 /// What a loop does in each turn (ES3 12.6.1 to 12.6.3).
+#[derive(Clone, Copy)]
 pub struct LoopParts<'a> {
     pub test: Option<&'a ExprCode>,
     /// What is done between two turns.
@@ -36,6 +39,7 @@ pub struct LoopParts<'a> {
 }
 
 /// The parts of a `for-in` (ES3 12.6.4).
+#[derive(Clone, Copy)]
 pub struct ForInParts<'a> {
     pub target: &'a ForTargetNode,
     pub object: &'a ExprCode,
@@ -43,6 +47,7 @@ pub struct ForInParts<'a> {
 }
 
 /// The parts of a `try` (ES3 12.14).
+#[derive(Clone, Copy)]
 pub struct TryParts<'a> {
     pub block: &'a StmtCode,
     pub handler: &'a Option<(Units, StmtCode)>,
