@@ -160,7 +160,8 @@ fn add_in_target(target: &ForTarget, names: &mut Names, alloc: Global) -> Result
 }
 
 fn add_items(items: &VarItems, names: &mut Names, alloc: Global) -> Result<(), AllocError>
-    ensures { OnOk result (names.new ≡ names.old ++ spec.vars_in_items (parts.var_items items.now)) }
+    ensures { OnOk result
+        (names.new ≡ names.old ++ spec.vars_in_items (parts.var_items items.now)) }
 {
     for item in items.items() {
         add_item(item, names, alloc)?;

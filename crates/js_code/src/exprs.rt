@@ -223,7 +223,8 @@ impl ExprCodes {
     pub fn get(&self, at: usize) -> Option<&ExprCode>
         ensures { MatchOption result
             (exprs_from self.now at ≡ NoExprs)
-            (λ e. exprs_from self.now at ≡ MoreExprs (view.expr e.now) (exprs_from self.now (at + 1))) }
+            (λ e. exprs_from self.now at
+            ≡ MoreExprs (view.expr e.now) (exprs_from self.now (at + 1))) }
     {
         let items = self.items();
         if at < items.len() {

@@ -236,7 +236,8 @@ impl StmtCodes {
     pub fn get(&self, at: usize) -> Option<&StmtCode>
         ensures { MatchOption result
             (stmts_from self.now at ≡ NoStmts)
-            (λ s. stmts_from self.now at ≡ MoreStmts (view.stmt s.now) (stmts_from self.now (at + 1))) }
+            (λ s. stmts_from self.now at
+            ≡ MoreStmts (view.stmt s.now) (stmts_from self.now (at + 1))) }
     {
         let items = self.items();
         if at < items.len() {
