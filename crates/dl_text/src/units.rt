@@ -1,9 +1,17 @@
 ghost use Rattle.std.specs.Prelude.{◌≡◌, ◌<◌, [], ◌∷◌, ◌++◌, OnOk, OnErr};
 ghost use Rattle.std.specs.Char.Escape.{encode_utf16};
+ghost use Rattle.std.specs.Prelude.{nat_eq};
+ghost use Rattle.std.specs.Cmp.{partial_equiv_from_equiv};
+ghost use Rattle.std.specs.Cmp.Lexicographic.{pointwise, nat_list_eq_equiv};
+ghost use Rattle.std.specs.Hash as fed;
+ghost use Rattle.std.specs.Hash.{items_Alike};
+ghost use Rattle.std.specs.Cmp.Rules.{hashing};
+ghost use Rattle.std.proofs.Common.{rules};
 
 use crate::list::TryCopy;
 use crate::shared::Shared;
 use std::alloc::{AllocError, Global};
+use std::hash::{Hash, Hasher};
 use std::marker::Model;
 use std::mem::size_of;
 
@@ -67,5 +75,30 @@ impl TryCopy for Units {
     fn copy(&self, _: Global) -> Result<Units, AllocError> {
         let units = self.units.share()?;
         Ok(Units { units })
+    }
+}
+
+/// Two are equal where they have the same units.
+impl PartialEq for Units {
+    ghost eq = { λ a b. pointwise nat_eq a b };
+
+    ghost laws = { partial_equiv_from_equiv nat_list_eq_equiv };
+
+    fn eq(&self, other: &Units) -> bool {
+        self.items() == other.items()
+    }
+}
+
+impl Eq for Units {
+    ghost laws = { nat_list_eq_equiv };
+}
+
+impl Hash for Units {
+    ghost hash_input = { fed.slice fed.u16 };
+
+    ghost respects_eq = { (items_Alike {F = fed.u16} (record { fed = Prim.search (hashing, rules) })).fed };
+
+    fn hash<H: Hasher>(&self, state: &mut H) {
+        self.items().hash(state);
     }
 }
