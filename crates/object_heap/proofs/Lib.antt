@@ -1,2 +1,4 @@
 pub mod Prototypes
 pub mod Held
+pub mod Tables
+pub mod WholeTexts

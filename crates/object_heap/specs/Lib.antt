@@ -5,6 +5,7 @@ pub mod Arrays
 pub mod Put
 pub mod Changes
 pub mod Visited
+pub mod Stored
 pub mod BuiltIns
 pub mod Start
 pub mod Laws

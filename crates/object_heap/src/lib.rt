@@ -9,8 +9,11 @@
 
 mod array_rows;
 mod built_in;
+mod entry;
 mod laws;
+mod names;
 mod object;
+mod properties;
 mod rows;
 mod start_rows;
 
