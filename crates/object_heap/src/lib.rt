@@ -16,6 +16,7 @@ mod object;
 mod properties;
 mod rows;
 mod start_rows;
+mod table;
 
 pub use array_rows::{elements, indices, lengths};
 pub use built_in::BuiltIn;

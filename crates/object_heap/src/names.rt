@@ -3,6 +3,7 @@ ghost use Rattle.std.specs.Char.{digit_value};
 ghost use Rattle.std.specs.List.{list_all};
 ghost use Rattle.std.specs.Str.Parse.{digits_value};
 ghost use Rattle.js_values.specs.NumberTexts as spec;
+ghost use Rattle.object_heap.specs.Arrays as arrays;
 ghost use Rattle.object_heap.specs.Names as names;
 
 /// 2^53, from where on all numbers are too large.
@@ -88,5 +89,15 @@ pub(crate) fn index_of(name: &[u16]) -> Option<u32>
         Some(value as u32)
     } else {
         None
+    }
+}
+
+/// Whether an index lies from one length up to another.
+pub(crate) fn is_between(new: u32, old: u32, index: Option<u32>) -> bool
+    ensures { result ≡ arrays.is_between new old index }
+{
+    match index {
+        Some(k) => new <= k && k < old,
+        None => false,
     }
 }

@@ -1,15 +1,20 @@
-ghost use Rattle.std.specs.Prelude.{◌≡◌, [], IsTrue, IfSome, IfNone, OnOk, OnErr};
+ghost use Rattle.std.specs.Prelude.{◌≡◌, [], length, not, slice_get, OnOk, OnErr};
 ghost use Rattle.std.specs.Option.{option_copied, option_map};
-ghost use Rattle.object_heap.specs.Arrays.{put_value};
+ghost use Rattle.object_heap.specs.Arrays as arrays;
+ghost use Rattle.object_heap.specs.Arrays.{cut};
 ghost use Rattle.object_heap.specs.Changes.{put_property, without};
+ghost use Rattle.object_heap.specs.Names as names;
 ghost use Rattle.object_heap.specs.Objects.{own_in};
-ghost use Rattle.object_heap.specs.Stored.{property_of};
+ghost use Rattle.object_heap.specs.Stored as stored;
+ghost use Rattle.object_heap.specs.Stored.{property_of, properties_after, with_length};
+ghost use Rattle.object_heap.specs.Stored.{written_own};
 
-use crate::entry::Entry;
-use crate::object::Attrs;
+use crate::entry::{Entry, Written, length_value};
+use crate::table;
+use crate::table::Table;
 use dl_text::{TryCopy, Units};
 use indexmap::IndexMap;
-use js_values::Value;
+use js_values::{Num, Value};
 use std::alloc::{AllocError, Global};
 use std::marker::Model;
 
@@ -17,7 +22,7 @@ use std::marker::Model;
 /// no memory for them.
 #[derive(Drop)]
 pub(crate) struct Properties {
-    table: Option<Box<IndexMap<Units, Entry>>>,
+    table: Option<Box<Table>>,
 }
 
 impl Model for Properties {
@@ -31,12 +36,6 @@ impl Model for Properties {
     ghost view = { λ properties. properties_of_entries (entries_of properties.table) };
 }
 
-const NO_ATTRIBUTES: Attrs = Attrs {
-    read_only: false,
-    hidden: false,
-    fixed: false,
-};
-
 impl Properties {
     /// No properties.
     pub(crate) fn new() -> Properties
@@ -46,13 +45,12 @@ impl Properties {
     }
 
     /// What is held for a name.
-    #[tactic(auto, using(crate::proofs::Tables::found_in_table))]
     pub(crate) fn get(&self, name: &Units) -> Option<&Entry>
         ensures { option_map (property_of name.now) (option_copied result)
             ≡ own_in self.now name.now }
     {
         match &self.table {
-            Some(table) => table.get(name),
+            Some(table) => table::get(table, name),
             None => None,
         }
     }
@@ -86,6 +84,66 @@ impl Properties {
     {
         if let Some(table) = &mut self.table {
             let _gone = table.shift_remove(name);
+        }
+    }
+
+    /// Writes to the property of this name, unless it is read-only or shares its value.
+    pub(crate) fn write(&mut self, name: &Units, v: Value) -> Written
+        ensures what { result ≡ written_own (own_in self.old name.now) v }
+        ensures after { self.new ≡ properties_after result self.old name.now v }
+    {
+        match &mut self.table {
+            Some(table) => table::write(table, name, v),
+            None => Written::Absent(v),
+        }
+    }
+
+    /// Takes out the indices from the new length of an array up to its old one.
+    pub(crate) fn cut(&mut self, length: u32, old: u32)
+        ensures { self.new ≡ cut length old self.old }
+    {
+        if let Some(table) = &mut self.table {
+            table::cut_indices(table, length, old);
+        }
+    }
+
+    /// How many there are.
+    pub(crate) fn len(&self) -> usize
+        ensures { result ≡ length self.now }
+    {
+        match &self.table {
+            Some(table) => table.len(),
+            None => 0,
+        }
+    }
+
+    /// The property at a place, counted from 0, by its name.
+    pub(crate) fn at(&self, place: usize) -> Option<(&Units, &Entry)>
+        ensures { option_map (λ p. property_of p.0.now p.1.now) result
+            ≡ slice_get self.now place }
+    {
+        match &self.table {
+            Some(table) => table.get_index(place),
+            None => None,
+        }
+    }
+
+    /// The length that the first property holds, and 0 where it holds none.
+    pub(crate) fn first_length(&self) -> u32
+        ensures { result ≡ stored.first_length self.now }
+    {
+        match self.at(0) {
+            Some((_, Entry::Holds(_, v))) => length_value(v).unwrap_or(0),
+            _ => 0,
+        }
+    }
+
+    /// Makes the first property hold a length; it keeps its attributes.
+    pub(crate) fn set_first_length(&mut self, n: u32)
+        ensures { self.new ≡ with_length self.old n }
+    {
+        if let Some(table) = &mut self.table {
+            table::set_first_length(table, n);
         }
     }
 }
