@@ -2,3 +2,4 @@ pub mod Prototypes
 pub mod Held
 pub mod Tables
 pub mod WholeTexts
+pub mod Chains

@@ -4,13 +4,15 @@ use Rattle.std.specs.declared.boxed.Box.{Box}
 use Rattle.indexmap.specs.IndexMap.{IndexMap}
 use Rattle.js_values.specs.declared.value.Value.{Value}
 use Rattle.object_heap.specs.declared.object.Attrs.{Attrs}
+use Rattle.object_heap.specs.declared.object.Class.{Class}
+use Rattle.object_heap.specs.declared.object.Class.TheVariants as class
 use Rattle.object_heap.specs.declared.entry.Entry.{Entry}
 use Rattle.object_heap.specs.declared.entry.Entry.TheVariants as entry
 use Rattle.object_heap.specs.declared.entry.Written.{Written}
 use Rattle.object_heap.specs.declared.entry.Written.TheVariants.{Done, ReadOnly, Shared, Absent}
 use Rattle.object_heap.specs.Names.{Name}
 use Rattle.object_heap.specs.Objects.{Slot, Property, Holds, Shares}
-use Rattle.object_heap.specs.Arrays.{whole, put_value, length_in_own}
+use Rattle.object_heap.specs.Arrays.{whole, put_value, length_in_own, grown}
 use Rattle.object_heap.specs.Changes.{hidden_only}
 
 -- ---- a property
@@ -78,3 +80,12 @@ first_length properties = length_in_own (first properties)
 abbrev pub with_length : List Property → ℕ → List Property
 with_length [] n = []
 with_length (p ∷ ps) n = record p { slot = Holds (whole n) } ∷ ps
+
+-- an index at or behind the length of an array makes it longer
+abbrev pub grown_by : Class → Option ℕ → List Property → List Property
+grown_by class.Array index properties = grown index properties
+grown_by class.Plain index properties = properties
+grown_by class.Function index properties = properties
+grown_by class.Arguments index properties = properties
+grown_by class.Error index properties = properties
+grown_by class.Math index properties = properties

@@ -9,6 +9,7 @@
 
 mod array_rows;
 mod built_in;
+mod chain;
 mod entry;
 mod laws;
 mod names;
@@ -16,6 +17,7 @@ mod object;
 mod properties;
 mod rows;
 mod start_rows;
+mod stored;
 mod table;
 
 pub use array_rows::{elements, indices, lengths};

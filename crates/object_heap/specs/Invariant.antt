@@ -1,0 +1,49 @@
+-- What holds of the objects of every heap.
+use Rattle.std.specs.Prelude.{◌≡◌, ℕ, ◌≤◌, Bool, true, false, List, [], ◌∷◌, length, slice_get}
+use Rattle.std.specs.Prelude.{Option, Some, None}
+use Rattle.object_heap.specs.declared.object.Class.{Class}
+use Rattle.object_heap.specs.declared.object.Class.TheVariants as class
+use Rattle.object_heap.specs.Names.{Name, is_same_name, length_name}
+use Rattle.object_heap.specs.Objects.{Slot, Holds, Shares, Property, Object, Heap}
+use Rattle.object_heap.specs.Laws.{PrototypesComeBefore}
+
+abbrev pub holds_value : Slot → Bool
+holds_value (Holds v) = true
+holds_value (Shares scope place) = false
+
+-- a property with the name `length`, which has its own value and cannot be deleted
+pub record IsLength (p : Property) : Type 0 where
+  pub named : is_same_name p.name length_name ≡ true
+  pub has_value : holds_value p.slot ≡ true
+  pub is_fixed : p.attributes.fixed ≡ true
+
+abbrev pub BeginsWithLength : List Property → Type 0
+BeginsWithLength [] = ⊥
+BeginsWithLength (p ∷ ps) = IsLength p
+
+-- the first property of an array is its `length`
+abbrev pub HasLength : Class → List Property → Type 0
+HasLength class.Array properties = BeginsWithLength properties
+HasLength class.Plain properties = Unit {0}
+HasLength class.Function properties = Unit {0}
+HasLength class.Arguments properties = Unit {0}
+HasLength class.Error properties = Unit {0}
+HasLength class.Math properties = Unit {0}
+
+abbrev pub ObjectHasLength : Option Object → Type 0
+ObjectHasLength None = Unit {0}
+ObjectHasLength (Some object) = HasLength object.class object.properties
+
+abbrev pub ArraysHaveLength : Heap → Type 0
+ArraysHaveLength heap = (o : ℕ) → ObjectHasLength (slice_get heap o)
+
+-- 2^32 - 1
+abbrev pub most_objects : ℕ
+most_objects = 4294967295
+
+pub record IsHeap (heap : Heap) (name : Name) : Type 0 where
+  pub prototypes_before : PrototypesComeBefore heap
+  pub arrays_have_length : ArraysHaveLength heap
+  pub numbered : length heap ≤ most_objects
+  -- the name that arrays share
+  pub named : name ≡ length_name
