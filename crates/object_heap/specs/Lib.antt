@@ -7,6 +7,7 @@ pub mod Changes
 pub mod Visited
 pub mod Stored
 pub mod Invariant
+pub mod Answers
 pub mod BuiltIns
 pub mod Start
 pub mod Laws

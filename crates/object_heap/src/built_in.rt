@@ -1,3 +1,5 @@
+ghost use Rattle.std.specs.Prelude.{◌≡◌, slice_get};
+
 /// The objects and functions that are there at the start (ES3 15), in the order of their numbers.
 #[derive(Clone, Copy, Debug, PartialEq, Eq)]
 pub enum BuiltIn {
@@ -66,4 +68,80 @@ pub enum BuiltIn {
     Ceil,
     Round,
     On,
+}
+
+/// All of them, in the order of their numbers.
+pub(crate) const BUILT_INS: [BuiltIn; 65] = [
+    BuiltIn::ObjectPrototype,
+    BuiltIn::FunctionPrototype,
+    BuiltIn::ArrayPrototype,
+    BuiltIn::StringPrototype,
+    BuiltIn::NumberPrototype,
+    BuiltIn::BooleanPrototype,
+    BuiltIn::ErrorPrototype,
+    BuiltIn::TypeErrorPrototype,
+    BuiltIn::ReferenceErrorPrototype,
+    BuiltIn::RangeErrorPrototype,
+    BuiltIn::Math,
+    BuiltIn::Host,
+    BuiltIn::Global,
+    BuiltIn::Object,
+    BuiltIn::Array,
+    BuiltIn::String,
+    BuiltIn::Number,
+    BuiltIn::Boolean,
+    BuiltIn::Error,
+    BuiltIn::TypeError,
+    BuiltIn::ReferenceError,
+    BuiltIn::RangeError,
+    BuiltIn::ParseInt,
+    BuiltIn::IsNan,
+    BuiltIn::ObjectToString,
+    BuiltIn::ObjectValueOf,
+    BuiltIn::HasOwnProperty,
+    BuiltIn::IsPrototypeOf,
+    BuiltIn::PropertyIsEnumerable,
+    BuiltIn::FunctionToString,
+    BuiltIn::Apply,
+    BuiltIn::Call,
+    BuiltIn::ArrayToString,
+    BuiltIn::ArrayConcat,
+    BuiltIn::Join,
+    BuiltIn::Pop,
+    BuiltIn::Push,
+    BuiltIn::Reverse,
+    BuiltIn::Shift,
+    BuiltIn::ArraySlice,
+    BuiltIn::Splice,
+    BuiltIn::Unshift,
+    BuiltIn::FromCharCode,
+    BuiltIn::StringToString,
+    BuiltIn::StringValueOf,
+    BuiltIn::CharAt,
+    BuiltIn::CharCodeAt,
+    BuiltIn::StringConcat,
+    BuiltIn::IndexOf,
+    BuiltIn::LastIndexOf,
+    BuiltIn::StringSlice,
+    BuiltIn::Split,
+    BuiltIn::Substring,
+    BuiltIn::NumberToString,
+    BuiltIn::NumberValueOf,
+    BuiltIn::BooleanToString,
+    BuiltIn::BooleanValueOf,
+    BuiltIn::ErrorToString,
+    BuiltIn::Abs,
+    BuiltIn::Max,
+    BuiltIn::Min,
+    BuiltIn::Floor,
+    BuiltIn::Ceil,
+    BuiltIn::Round,
+    BuiltIn::On,
+];
+
+/// The one at a place.
+pub(crate) fn built_in_at(all: &[BuiltIn], place: u64) -> Option<BuiltIn>
+    ensures { result ≡ slice_get all.now place }
+{
+    all.get(place as usize).copied()
 }

@@ -1,17 +1,25 @@
 //! Walks along the prototypes of an object.
-ghost use Rattle.std.specs.Prelude.{◌≡◌, ◌<◌, length};
+ghost use Rattle.std.specs.Prelude.{◌≡◌, ◌<◌, length, nat_eq};
+ghost use Rattle.std.specs.List.{list_any};
 ghost use Rattle.std.specs.Option.{option_copied, option_map};
 ghost use Rattle.object_heap.specs.Get.{met_along};
 ghost use Rattle.object_heap.specs.Laws.{IsThere, PrototypesComeBefore};
-ghost use Rattle.object_heap.specs.Objects as objects;
-ghost use Rattle.object_heap.specs.Objects.{chain_of, chain_on};
+ghost use Rattle.object_heap.specs.Objects.{chain_of, chain_on, prototype_of};
 ghost use Rattle.object_heap.specs.Stored.{property_of};
-ghost use Rattle.std.specs.List.{list_any};
-ghost use Rattle.std.specs.Prelude.{nat_eq};
 
 use crate::entry::Entry;
 use crate::stored::StoredObject;
 use dl_text::Units;
+
+/// The prototype of an object.
+pub(crate) fn prototype(objects: &[StoredObject], o: u64) -> Option<u32>
+    requires before { PrototypesComeBefore objects.now }
+    requires within { o < length objects.now }
+    ensures value { result ≡ prototype_of objects.now o }
+    ensures there { IsThere objects.now result }
+{
+    objects[o as usize].prototype()
+}
 
 /// What the first object that has the property stores for it, from an object on.
 pub(crate) fn find<'a>(

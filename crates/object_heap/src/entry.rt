@@ -43,6 +43,13 @@ pub(crate) const HIDDEN_ONLY: Attrs = Attrs {
     fixed: false,
 };
 
+/// The attributes of the `length` of an array.
+pub(crate) const HIDDEN_AND_FIXED: Attrs = Attrs {
+    read_only: false,
+    hidden: true,
+    fixed: true,
+};
+
 impl Entry {
     ghost use Rattle.object_heap.specs.Stored as stored;
 

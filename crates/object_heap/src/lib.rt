@@ -7,10 +7,12 @@
 //! function are the machine's.
 #![tactic(auto)]
 
+mod answer;
 mod array_rows;
 mod built_in;
 mod chain;
 mod entry;
+mod heap;
 mod laws;
 mod names;
 mod object;
@@ -20,8 +22,10 @@ mod start_rows;
 mod stored;
 mod table;
 
+pub use answer::Prop;
 pub use array_rows::{elements, indices, lengths};
 pub use built_in::BuiltIn;
+pub use heap::Heap;
 pub use laws::{chains_go_up, nothing_holds, prototypes_come_before};
 pub use object::{Attrs, Class};
 pub use rows::{definitions, deletions, reads, refused_writes, visited_names, writes};

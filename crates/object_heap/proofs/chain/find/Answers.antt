@@ -17,5 +17,5 @@ loop-next-preserved c =
     let none : own_in object.properties c.args.name.now ≡ None = rw c.in_default-get.is at (sym c.get.ensures) in
     record {
       there = rw c.prototype-next.ensures (next_there heap c.requires.before o object at lt);
-      same = rw c.prototype-next.ensures (sym (met_further heap c.requires.before o object at c.args.name.now none) ∙ ap (λ n. met_along heap (chain_on n (chain_of heap)) c.args.name.now) (sym c.in-Some.is) ∙ c.loop-next.invariant.same)
+      same = rw c.prototype-next.ensures (sym (met_further heap c.requires.before o object at c.args.name.now none) ∙ ap (λ n. met_along heap (chain_on n (chain_of heap)) c.args.name.now) (sym c.in-Some.is) ∙ c.loop-next.invariant.same);
     }

@@ -8,7 +8,7 @@ use Rattle.object_heap.proofs.chain.find.Given as goal
 abbrev pub invariant-loop-next : goal.invariant-loop-next
 invariant-loop-next l = record {
   there : IsThere l.objects l.next;
-  same : met_along l.objects (chain_on l.next (chain_of l.objects)) l.name ≡ met_along l.objects (chain_on l.fn.first (chain_of l.objects)) l.name
+  same : met_along l.objects (chain_on l.next (chain_of l.objects)) l.name ≡ met_along l.objects (chain_on l.fn.first (chain_of l.objects)) l.name;
 }
 
 abbrev pub decreases-loop-next : goal.decreases-loop-next

@@ -17,5 +17,5 @@ loop-next-preserved c =
     let other : nat_eq o c.args.target ≡ false = grind (arith, nat_tests) in
     record {
       there = rw c.prototype-next.ensures (next_there heap c.requires.before o object at lt);
-      same = rw c.prototype-next.ensures (sym (among_further heap c.requires.before o object at c.args.target other) ∙ ap (λ n. list_any (λ p. nat_eq p c.args.target) (chain_on n (chain_of heap))) (sym c.in-Some.is) ∙ c.loop-next.invariant.same)
+      same = rw c.prototype-next.ensures (sym (among_further heap c.requires.before o object at c.args.target other) ∙ ap (λ n. list_any (λ p. nat_eq p c.args.target) (chain_on n (chain_of heap))) (sym c.in-Some.is) ∙ c.loop-next.invariant.same);
     }

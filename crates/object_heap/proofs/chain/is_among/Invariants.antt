@@ -8,7 +8,7 @@ use Rattle.object_heap.proofs.chain.is_among.Given as goal
 abbrev pub invariant-loop-next : goal.invariant-loop-next
 invariant-loop-next l = record {
   there : IsThere l.objects l.next;
-  same : list_any (λ p. nat_eq p l.target) (chain_on l.next (chain_of l.objects)) ≡ list_any (λ p. nat_eq p l.target) (chain_on l.fn.first (chain_of l.objects))
+  same : list_any (λ p. nat_eq p l.target) (chain_on l.next (chain_of l.objects)) ≡ list_any (λ p. nat_eq p l.target) (chain_on l.fn.first (chain_of l.objects));
 }
 
 abbrev pub decreases-loop-next : goal.decreases-loop-next

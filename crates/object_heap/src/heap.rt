@@ -1,0 +1,174 @@
+ghost use Rattle.std.specs.Prelude.{◌≡◌, ◌<◌, length, slice_get, OnOk, OnErr, IfOk, Some, None};
+ghost use Rattle.std.specs.Option.{option_copied, option_map};
+ghost use Rattle.object_heap.specs.Answers.{slot_shown, number};
+ghost use Rattle.object_heap.specs.BuiltIns as built;
+ghost use Rattle.object_heap.specs.Changes as changes;
+ghost use Rattle.object_heap.specs.Get as reads;
+ghost use Rattle.object_heap.specs.Laws.{IsThere};
+ghost use Rattle.object_heap.specs.Objects as objects;
+ghost use Rattle.object_heap.specs.Stored.{property_of};
+
+use crate::answer::Prop;
+use crate::built_in::{BUILT_INS, BuiltIn, built_in_at};
+use crate::chain;
+use crate::entry::{Entry, HIDDEN_AND_FIXED};
+use crate::object::{Attrs, Class};
+use crate::properties::Properties;
+use crate::stored::StoredObject;
+use dl_text::Units;
+use js_values::{Num, ObjectId, Value};
+use std::alloc::{AllocError, Global};
+use std::marker::Model;
+
+/// How many objects there may be: 2^32 - 1.
+const MOST_OBJECTS: u64 = 0xffff_ffff;
+
+/// The objects of a run, numbered in the order in which they are made (ES3 8.6).
+#[derive(Drop)]
+pub struct Heap {
+    alloc: Global,
+    /// `length`, the name that arrays share.
+    length: Units,
+    objects: Vec<StoredObject>,
+}
+
+impl Model for Heap {
+    ghost use Rattle.std.specs.Prelude.{List};
+    ghost use Rattle.object_heap.specs.Objects.{Object};
+
+    ghost Value = { List Object };
+
+    ghost use Rattle.object_heap.specs.Invariant.{IsHeap};
+
+    ghost view = { λ heap. heap.objects.items };
+
+    ghost invariant = { λ heap. IsHeap heap.objects.items heap.length };
+}
+
+impl Heap {
+    /// The class of an object.
+    pub fn class(&self, o: ObjectId) -> Class
+        requires { o.0 < length self.now }
+        ensures { objects.class_of self.now o.0 ≡ Some result }
+    {
+        self.objects[o.0 as usize].class
+    }
+
+    /// The prototype of an object.
+    pub fn proto(&self, o: ObjectId) -> Option<ObjectId>
+        requires { o.0 < length self.now }
+        ensures { number result ≡ objects.prototype_of self.now o.0 }
+    {
+        match chain::prototype(self.objects.as_slice(), o.0) {
+            Some(prototype) => Some(ObjectId(u64::from(prototype))),
+            None => None,
+        }
+    }
+
+    /// The attributes of an own property.
+    pub fn own(&self, o: ObjectId, name: &Units) -> Option<Attrs>
+        requires { o.0 < length self.now }
+        ensures { result ≡ objects.attributes_of self.now o.0 name.now }
+    {
+        match self.objects[o.0 as usize].get(name) {
+            Some(entry) => Some(entry.attributes()),
+            None => None,
+        }
+    }
+
+    /// What is stored for the property that is met first along the prototypes.
+    fn met(&self, o: ObjectId, name: &Units) -> Option<&Entry>
+        requires { o.0 < length self.now }
+        ensures { option_map (property_of name.now) (option_copied result)
+            ≡ reads.met self.now o.0 name.now }
+    {
+        chain::find(self.objects.as_slice(), Some(o.0 as u32), name)
+    }
+
+    /// [[Get]] (ES3 8.6.2.1): where the value of a property is; None for undefined.
+    pub fn get(&self, o: ObjectId, name: &Units) -> Option<Prop<'_>>
+        requires { o.0 < length self.now }
+        ensures { option_map slot_shown result ≡ reads.get self.now o.0 name.now }
+    {
+        match self.met(o, name) {
+            Some(Entry::Holds(_, v)) => Some(Prop::Own(v)),
+            Some(Entry::Shares(scope, place)) => Some(Prop::Shared(*scope, *place)),
+            None => None,
+        }
+    }
+
+    /// [[HasProperty]] (ES3 8.6.2.4).
+    pub fn has(&self, o: ObjectId, name: &Units) -> bool
+        requires { o.0 < length self.now }
+        ensures { result ≡ reads.has_property self.now o.0 name.now }
+    {
+        self.met(o, name).is_some()
+    }
+
+    /// [[CanPut]] (ES3 8.6.2.3).
+    pub fn can_put(&self, o: ObjectId, name: &Units) -> bool
+        requires { o.0 < length self.now }
+        ensures { result ≡ reads.can_put self.now o.0 name.now }
+    {
+        match self.met(o, name) {
+            Some(entry) => !entry.attributes().read_only,
+            None => true,
+        }
+    }
+
+    /// Whether an object stands behind another along its prototypes (ES3 15.2.4.6, 15.3.5.3).
+    pub fn is_behind(&self, o: ObjectId, target: ObjectId) -> bool
+        requires { o.0 < length self.now }
+        ensures { result ≡ objects.is_behind self.now o.0 target.0 }
+    {
+        let prototype = chain::prototype(self.objects.as_slice(), o.0);
+        chain::is_among(self.objects.as_slice(), prototype, target.0)
+    }
+
+    /// Makes an object, which comes last. An array begins with `length` 0 (ES3 15.4.5.2). It finds
+    /// no memory also where numbers end, at 2^32 - 1 objects.
+    pub fn make(&mut self, class: Class, proto: Option<ObjectId>) -> Result<ObjectId, AllocError>
+        requires { IsThere self.old (number proto) }
+        ensures number { IfOk result (λ o. o.0 ≡ length self.old) }
+        ensures ok { OnOk result (self.new ≡ changes.made class (number proto) self.old) }
+        ensures err { OnErr result (self.new ≡ self.old) }
+    {
+        let count = self.objects.len() as u64;
+        if count >= MOST_OBJECTS {
+            return Err(AllocError);
+        }
+        let mut properties = Properties::new();
+        if class == Class::Array {
+            let length = Value::Num(Num::from(0u32));
+            properties.put_property(
+                self.alloc,
+                &self.length,
+                Entry::Holds(HIDDEN_AND_FIXED, length),
+            )?;
+        }
+        let prototype = match proto {
+            Some(o) => Some(o.0 as u32),
+            None => None,
+        };
+        self.objects.push(StoredObject {
+            properties,
+            prototype,
+            class,
+        })?;
+        Ok(ObjectId(count))
+    }
+
+    /// The number of one of the objects that are there at the start.
+    pub fn built_in(&self, b: BuiltIn) -> ObjectId
+        ensures { result.0 ≡ built.number_of b }
+    {
+        ObjectId(b as u64)
+    }
+
+    /// Which of the objects that are there at the start an object is.
+    pub fn which(&self, o: ObjectId) -> Option<BuiltIn>
+        ensures { result ≡ built.which o.0 }
+    {
+        built_in_at(BUILT_INS.as_slice(), o.0)
+    }
+}
