@@ -3,3 +3,4 @@ pub mod Held
 pub mod Tables
 pub mod WholeTexts
 pub mod Chains
+pub mod Writing

@@ -13,7 +13,8 @@ use Rattle.object_heap.specs.Names.{Name, is_same_name, index_of}
 use Rattle.object_heap.specs.Objects.{Property, Holds, own_in}
 use Rattle.object_heap.specs.Arrays.{is_between, cut, whole, put_value}
 use Rattle.object_heap.specs.Changes.{put_property, without}
-use Rattle.object_heap.specs.Stored.{attributes_of, property_of, holding_in, entry_after, properties_of_entries, properties_after, with_length}
+use Rattle.object_heap.specs.Stored.{attributes_of, property_of, holding_in, properties_of_entries}
+use Rattle.object_heap.specs.Writes.{entry_after, properties_after, with_length}
 
 -- ---- names
 

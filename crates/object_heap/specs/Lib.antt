@@ -6,6 +6,7 @@ pub mod Put
 pub mod Changes
 pub mod Visited
 pub mod Stored
+pub mod Writes
 pub mod Invariant
 pub mod Answers
 pub mod BuiltIns

@@ -52,6 +52,7 @@ pub(crate) const HIDDEN_AND_FIXED: Attrs = Attrs {
 
 impl Entry {
     ghost use Rattle.object_heap.specs.Stored as stored;
+    ghost use Rattle.object_heap.specs.Writes as writes;
 
     /// The attributes of the property.
     pub(crate) fn attributes(&self) -> Attrs
@@ -66,8 +67,8 @@ impl Entry {
     /// Writes a value, unless the property is read-only or shares its value.
     pub(crate) fn write(&mut self, v: Value) -> Written
         ensures what { result
-            ≡ stored.written_by (stored.attributes_of self.old).read_only (stored.slot_of self.old) }
-        ensures after { self.new ≡ stored.entry_after result self.old v }
+            ≡ writes.written_by (stored.attributes_of self.old).read_only (stored.slot_of self.old) }
+        ensures after { self.new ≡ writes.entry_after result self.old v }
     {
         match self {
             Entry::Shares(scope, place) => Written::Shared(*scope, *place),

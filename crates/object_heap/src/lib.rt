@@ -22,7 +22,7 @@ mod start_rows;
 mod stored;
 mod table;
 
-pub use answer::Prop;
+pub use answer::{HeapError, Prop, Put};
 pub use array_rows::{elements, indices, lengths};
 pub use built_in::BuiltIn;
 pub use heap::Heap;

@@ -5,10 +5,11 @@ ghost use Rattle.object_heap.specs.Arrays.{cut};
 ghost use Rattle.object_heap.specs.Changes.{put_property, without};
 ghost use Rattle.object_heap.specs.Names as names;
 ghost use Rattle.object_heap.specs.Objects.{own_in};
-ghost use Rattle.object_heap.specs.Stored as stored;
-ghost use Rattle.object_heap.specs.Stored.{property_of, properties_after, with_length};
-ghost use Rattle.object_heap.specs.Stored.{written_own};
+ghost use Rattle.object_heap.specs.Stored.{property_of};
+ghost use Rattle.object_heap.specs.Writes as writes;
+ghost use Rattle.object_heap.specs.Writes.{properties_after, with_length, written_own};
 
+use crate::answer::HeapError;
 use crate::entry::{Entry, Written, length_value};
 use crate::table;
 use crate::table::Table;
@@ -130,7 +131,7 @@ impl Properties {
 
     /// The length that the first property holds, and 0 where it holds none.
     pub(crate) fn first_length(&self) -> u32
-        ensures { result ≡ stored.first_length self.now }
+        ensures { result ≡ writes.first_length self.now }
     {
         match self.at(0) {
             Some((_, Entry::Holds(_, v))) => length_value(v).unwrap_or(0),
@@ -145,5 +146,38 @@ impl Properties {
         if let Some(table) = &mut self.table {
             table::set_first_length(table, n);
         }
+    }
+
+    /// Whether the first property is read-only.
+    pub(crate) fn is_first_read_only(&self) -> bool
+        ensures { result ≡ writes.is_first_read_only self.now }
+    {
+        match self.at(0) {
+            Some((_, entry)) => entry.attributes().read_only,
+            None => false,
+        }
+    }
+
+    /// Writes to the `length` of an array, which is the first property (ES3 15.4.5.1, steps 12 to
+    /// 15).
+    #[tactic(auto, using(crate::proofs::Writing::nothing_cut))]
+    pub(crate) fn put_length(&mut self, v: &Value) -> Result<Written, HeapError>
+        ensures what { result
+            ≡ writes.length_answer (writes.is_first_read_only self.old) (arrays.length_value v.now) }
+        ensures after { self.new ≡ writes.length_after (writes.is_first_read_only self.old) self.old
+            (arrays.length_value v.now) }
+    {
+        if self.is_first_read_only() {
+            return Ok(Written::ReadOnly);
+        }
+        let Some(n) = length_value(v) else {
+            return Err(HeapError::BadLength);
+        };
+        let old = self.first_length();
+        if n < old {
+            self.cut(n, old);
+        }
+        self.set_first_length(n);
+        Ok(Written::Done)
     }
 }

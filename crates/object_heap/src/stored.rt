@@ -1,13 +1,15 @@
-ghost use Rattle.std.specs.Prelude.{◌≡◌, OnOk, OnErr};
+ghost use Rattle.std.specs.Prelude.{◌≡◌, None, OnOk, OnErr};
 ghost use Rattle.std.specs.Option.{option_copied, option_map};
 ghost use Rattle.object_heap.specs.Changes.{put_property, without};
 ghost use Rattle.object_heap.specs.Invariant.{HasLength};
 ghost use Rattle.object_heap.specs.Names as names;
 ghost use Rattle.object_heap.specs.Objects.{own_in, with_properties};
-ghost use Rattle.object_heap.specs.Stored.{property_of, properties_after, written_own, grown_by};
+ghost use Rattle.object_heap.specs.Stored.{property_of};
+ghost use Rattle.object_heap.specs.Writes.{added, grown_by, own_after, own_answer};
 
-use crate::entry::{Entry, Written};
-use crate::names::index_of;
+use crate::answer::HeapError;
+use crate::entry::{Entry, NO_ATTRIBUTES, Written};
+use crate::names::{index_of, is_length};
 use crate::object::Class;
 use crate::properties::Properties;
 use dl_text::Units;
@@ -72,17 +74,8 @@ impl StoredObject {
         self.properties.remove(name);
     }
 
-    /// Writes to the own property of this name, unless it is read-only or shares its value.
-    pub(crate) fn write(&mut self, name: &Units, v: Value) -> Written
-        ensures what { result ≡ written_own (own_in self.old.properties name.now) v }
-        ensures after { self.new ≡ with_properties self.old
-            (properties_after result self.old.properties name.now v) }
-    {
-        self.properties.write(name, v)
-    }
-
     /// Makes an array longer, where its property of this name is an index at or behind its length.
-    pub(crate) fn grow(&mut self, name: &Units)
+    fn grow(&mut self, name: &Units)
         requires { HasLength self.old.class self.old.properties }
         ensures { self.new ≡ with_properties self.old
             (grown_by self.old.class (names.index_of name.now) self.old.properties) }
@@ -94,5 +87,37 @@ impl StoredObject {
                 }
             }
         }
+    }
+
+    /// The [[Put]] of the object where it has the property itself (ES3 8.6.2.2, 15.4.5.1).
+    pub(crate) fn put_own(&mut self, name: &Units, v: Value) -> Result<Written, HeapError>
+        requires { HasLength self.old.class self.old.properties }
+        ensures what { result ≡ own_answer self.old name.now v }
+        ensures after { self.new ≡ with_properties self.old (own_after self.old name.now v) }
+        ensures has_length { HasLength self.new.class self.new.properties }
+    {
+        if self.class == Class::Array && is_length(name.items()) {
+            return self.properties.put_length(&v);
+        }
+        let written = self.properties.write(name, v);
+        if let Written::Done = written {
+            self.grow(name);
+        }
+        Ok(written)
+    }
+
+    /// The [[Put]] of the object where it has no such property.
+    pub(crate) fn add(&mut self, alloc: Global, name: &Units, v: Value) -> Result<(), AllocError>
+        requires has_length { HasLength self.old.class self.old.properties }
+        requires absent { own_in self.old.properties name.now ≡ None }
+        ensures ok { OnOk result (self.new ≡ with_properties self.old
+            (added self.old.class self.old.properties name.now v)) }
+        ensures err { OnErr result (self.new ≡ self.old) }
+        ensures has_length { HasLength self.new.class self.new.properties }
+    {
+        self.properties
+            .put_property(alloc, name, Entry::Holds(NO_ATTRIBUTES, v))?;
+        self.grow(name);
+        Ok(())
     }
 }

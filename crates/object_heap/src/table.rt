@@ -5,8 +5,8 @@ ghost use Rattle.object_heap.specs.Arrays as arrays;
 ghost use Rattle.object_heap.specs.Arrays.{cut};
 ghost use Rattle.object_heap.specs.Names as names;
 ghost use Rattle.object_heap.specs.Objects.{own_in};
-ghost use Rattle.object_heap.specs.Stored.{property_of, properties_after, properties_of_entries};
-ghost use Rattle.object_heap.specs.Stored.{with_length, written_own};
+ghost use Rattle.object_heap.specs.Stored.{property_of, properties_of_entries};
+ghost use Rattle.object_heap.specs.Writes.{properties_after, with_length, written_own};
 
 use crate::entry::{Entry, Written};
 use crate::names::{index_of, is_between};

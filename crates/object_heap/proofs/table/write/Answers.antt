@@ -1,7 +1,8 @@
 use Rattle.std.proofs.Common.{◌≡◌, Some, None, sym, ap, ◌∙◌}
 use Rattle.std.specs.Map.{lookup, set_value}
 use Rattle.object_heap.specs.Names.{is_same_name}
-use Rattle.object_heap.specs.Stored.{properties_of_entries, written_own}
+use Rattle.object_heap.specs.Stored.{properties_of_entries}
+use Rattle.object_heap.specs.Writes.{written_own}
 use Rattle.object_heap.proofs.Tables.{own_found, written_to_table}
 use Rattle.object_heap.proofs.table.write.Goals as goal
 
