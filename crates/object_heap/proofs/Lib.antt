@@ -4,3 +4,4 @@ pub mod Tables
 pub mod WholeTexts
 pub mod Chains
 pub mod Writing
+pub mod Puts

@@ -81,7 +81,7 @@ prototype_set (x ∷ xs) zero new (suc q) e = refl
 prototype_set (x ∷ xs) (suc o) new zero e = refl
 prototype_set (x ∷ xs) (suc o) new (suc q) e = prototype_set xs o new q e
 
-change_keeps : (heap : Heap) (o : ℕ) (object : Object) (properties : List Property) → slice_get heap o ≡ Some object → PrototypesComeBefore heap → PrototypesComeBefore (changed heap o object properties)
+pub change_keeps : (heap : Heap) (o : ℕ) (object : Object) (properties : List Property) → slice_get heap o ≡ Some object → PrototypesComeBefore heap → PrototypesComeBefore (changed heap o object properties)
 change_keeps heap o object properties e before q p h = before q p (sym (prototype_set heap o (with_properties object properties) q (ap prototype_in e)) ∙ h)
 
 -- a write

@@ -19,8 +19,8 @@ use Rattle.object_heap.specs.Stored.{holding_in}
 -- ---- to an own property
 
 abbrev pub written_by : Bool → Slot → Written
-written_by read_only (Shares scope place) = Shared scope place
-written_by true (Holds old) = ReadOnly
+written_by true slot = ReadOnly
+written_by false (Shares scope place) = Shared scope place
 written_by false (Holds old) = Done
 
 -- what comes of it; the value comes back where there is no property
@@ -82,8 +82,8 @@ length_after false properties (Some n) =
 -- ---- to an object, by its class
 
 abbrev pub answer_of : Bool → Slot → Option (List Property) → Result Written HeapError
-answer_of read_only (Shares scope place) after = Ok (Shared scope place)
-answer_of true (Holds old) after = Ok ReadOnly
+answer_of true slot after = Ok ReadOnly
+answer_of false (Shares scope place) after = Ok (Shared scope place)
 answer_of false (Holds old) None = Err BadLength
 answer_of false (Holds old) (Some properties) = Ok Done
 

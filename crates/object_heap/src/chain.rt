@@ -2,7 +2,7 @@
 ghost use Rattle.std.specs.Prelude.{◌≡◌, ◌<◌, length, nat_eq};
 ghost use Rattle.std.specs.List.{list_any};
 ghost use Rattle.std.specs.Option.{option_copied, option_map};
-ghost use Rattle.object_heap.specs.Get.{met_along};
+ghost use Rattle.object_heap.specs.Get.{is_writable, met_along};
 ghost use Rattle.object_heap.specs.Laws.{IsThere, PrototypesComeBefore};
 ghost use Rattle.object_heap.specs.Objects.{chain_of, chain_on, prototype_of};
 ghost use Rattle.object_heap.specs.Stored.{property_of};
@@ -41,6 +41,19 @@ pub(crate) fn find<'a>(
         next = object.prototype();
     }
     None
+}
+
+/// Whether the property that is met first from an object on, if any, can be written (ES3 8.6.2.3).
+pub(crate) fn is_writable(objects: &[StoredObject], first: Option<u32>, name: &Units) -> bool
+    requires before { PrototypesComeBefore objects.now }
+    requires there { IsThere objects.now first }
+    ensures { result
+        ≡ is_writable (met_along objects.now (chain_on first (chain_of objects.now)) name.now) }
+{
+    match find(objects, first, name) {
+        Some(entry) => !entry.attributes().read_only,
+        None => true,
+    }
 }
 
 /// Whether an object is among these, from an object on.

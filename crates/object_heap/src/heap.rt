@@ -1,17 +1,18 @@
 ghost use Rattle.std.specs.Prelude.{◌≡◌, ◌<◌, length, slice_get, OnOk, OnErr, IfOk, Some, None};
 ghost use Rattle.std.specs.Option.{option_copied, option_map};
-ghost use Rattle.object_heap.specs.Answers.{slot_shown, number};
+ghost use Rattle.object_heap.specs.Answers.{IsAnswer, number, slot_shown, told};
 ghost use Rattle.object_heap.specs.BuiltIns as built;
 ghost use Rattle.object_heap.specs.Changes as changes;
 ghost use Rattle.object_heap.specs.Get as reads;
 ghost use Rattle.object_heap.specs.Laws.{IsThere};
 ghost use Rattle.object_heap.specs.Objects as objects;
+ghost use Rattle.object_heap.specs.Put as writes;
 ghost use Rattle.object_heap.specs.Stored.{property_of};
 
-use crate::answer::Prop;
+use crate::answer::{HeapError, Prop, Put};
 use crate::built_in::{BUILT_INS, BuiltIn, built_in_at};
 use crate::chain;
-use crate::entry::{Entry, HIDDEN_AND_FIXED};
+use crate::entry::{Entry, HIDDEN_AND_FIXED, Written};
 use crate::object::{Attrs, Class};
 use crate::properties::Properties;
 use crate::stored::StoredObject;
@@ -123,6 +124,38 @@ impl Heap {
     {
         let prototype = chain::prototype(self.objects.as_slice(), o.0);
         chain::is_among(self.objects.as_slice(), prototype, target.0)
+    }
+
+    /// [[Put]] (ES3 8.6.2.2, 15.4.5.1). Where it fails, and where it did nothing, the heap stays.
+    pub fn put(&mut self, o: ObjectId, name: &Units, v: Value) -> Result<Put, HeapError>
+        requires { o.0 < length self.old }
+        ensures answer { IsAnswer result (told (writes.put self.old o.0 name.now v)) }
+        ensures ok { OnOk result (self.new ≡ writes.written self.old o.0 name.now v) }
+        ensures err { OnErr result (self.new ≡ self.old) }
+    {
+        match self.objects[o.0 as usize].put_own(name, v)? {
+            Written::Done => Ok(Put::Done),
+            Written::ReadOnly => Ok(Put::Ignored),
+            Written::Shared(scope, place) => Ok(Put::Shared(scope, place)),
+            Written::Absent(v) => self.put_new(o, name, v),
+        }
+    }
+
+    /// The same where the object has no such property.
+    fn put_new(&mut self, o: ObjectId, name: &Units, v: Value) -> Result<Put, HeapError>
+        requires there { o.0 < length self.old }
+        requires absent { objects.own_of self.old o.0 name.now ≡ None }
+        ensures answer { IsAnswer result (told (writes.put self.old o.0 name.now v)) }
+        ensures ok { OnOk result (self.new ≡ writes.written self.old o.0 name.now v) }
+        ensures err { OnErr result (self.new ≡ self.old) }
+    {
+        let prototype = chain::prototype(self.objects.as_slice(), o.0);
+        if !chain::is_writable(self.objects.as_slice(), prototype, name) {
+            return Ok(Put::Ignored);
+        }
+        let alloc = self.alloc;
+        self.objects[o.0 as usize].add(alloc, name, v)?;
+        Ok(Put::Done)
     }
 
     /// Makes an object, which comes last. An array begins with `length` 0 (ES3 15.4.5.2). It finds
