@@ -5,3 +5,4 @@ pub mod WholeTexts
 pub mod Chains
 pub mod Writing
 pub mod Puts
+pub mod Changing

@@ -1,5 +1,5 @@
 -- What the calls of a heap answer, in the words of the definitions.
-use Rattle.std.specs.Prelude.{◌≡◌, ℕ, Option, Some, None, option_map, Result, Ok, Err, List, map}
+use Rattle.std.specs.Prelude.{◌≡◌, ℕ, true, false, Option, Some, None, option_map, Result, Ok, Err}
 use Rattle.js_values.specs.declared.value.ObjectId.{ObjectId}
 use Rattle.object_heap.specs.declared.answer.Prop.{Prop}
 use Rattle.object_heap.specs.declared.answer.Prop.TheVariants as prop
@@ -7,7 +7,11 @@ use Rattle.object_heap.specs.declared.answer.Put.{Put}
 use Rattle.object_heap.specs.declared.answer.Put.TheVariants as answer
 use Rattle.object_heap.specs.declared.answer.HeapError.{HeapError}
 use Rattle.object_heap.specs.declared.answer.HeapError.TheVariants.{BadLength, OutOfMemory}
-use Rattle.object_heap.specs.Objects.{Slot, Holds, Shares}
+use Rattle.object_heap.specs.declared.object.Class.{Class}
+use Rattle.object_heap.specs.declared.object.Class.TheVariants as class
+use Rattle.object_heap.specs.Names.{Name, is_same_name, length_name, index_of}
+use Rattle.object_heap.specs.Objects.{Slot, Holds, Shares, Property}
+use Rattle.object_heap.specs.Invariant.{holds_value}
 use Rattle.object_heap.specs.Put as put
 
 -- where a value is
@@ -31,3 +35,21 @@ abbrev pub IsAnswer : Result Put HeapError → Result Put HeapError → Type 0
 IsAnswer (Ok done) expected = Ok done ≡ expected
 IsAnswer (Err BadLength) expected = Err BadLength ≡ expected
 IsAnswer (Err OutOfMemory) expected = Unit {0}
+
+-- ---- what the calls ask for
+
+-- the own property, if any, is no index that shares its value
+abbrev pub IsUnshared : Option Property → Type 0
+IsUnshared None = Unit {0}
+IsUnshared (Some p) = holds_value p.slot ≡ true
+
+-- of an array neither `length` nor an index
+abbrev pub IsPlainName : Option Class → Name → Type 0
+IsPlainName None name = Unit {0}
+IsPlainName (Some class.Array) name =
+    (is_same_name name length_name ≡ false) × (index_of name ≡ None)
+IsPlainName (Some class.Plain) name = Unit {0}
+IsPlainName (Some class.Function) name = Unit {0}
+IsPlainName (Some class.Arguments) name = Unit {0}
+IsPlainName (Some class.Error) name = Unit {0}
+IsPlainName (Some class.Math) name = Unit {0}

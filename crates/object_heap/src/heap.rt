@@ -1,10 +1,13 @@
 ghost use Rattle.std.specs.Prelude.{◌≡◌, ◌<◌, length, slice_get, OnOk, OnErr, IfOk, Some, None};
 ghost use Rattle.std.specs.Option.{option_copied, option_map};
-ghost use Rattle.object_heap.specs.Answers.{IsAnswer, number, slot_shown, told};
+ghost use Rattle.object_heap.specs.Answers.{IsAnswer, IsPlainName, IsUnshared, number};
+ghost use Rattle.object_heap.specs.Answers.{slot_shown, told};
+ghost use Rattle.object_heap.specs.declared.object.Class.TheVariants as class;
 ghost use Rattle.object_heap.specs.BuiltIns as built;
 ghost use Rattle.object_heap.specs.Changes as changes;
 ghost use Rattle.object_heap.specs.Get as reads;
 ghost use Rattle.object_heap.specs.Laws.{IsThere};
+ghost use Rattle.object_heap.specs.Names as names;
 ghost use Rattle.object_heap.specs.Objects as objects;
 ghost use Rattle.object_heap.specs.Put as writes;
 ghost use Rattle.object_heap.specs.Stored.{property_of};
@@ -13,6 +16,7 @@ use crate::answer::{HeapError, Prop, Put};
 use crate::built_in::{BUILT_INS, BuiltIn, built_in_at};
 use crate::chain;
 use crate::entry::{Entry, HIDDEN_AND_FIXED, Written};
+use crate::names::decimal;
 use crate::object::{Attrs, Class};
 use crate::properties::Properties;
 use crate::stored::StoredObject;
@@ -156,6 +160,62 @@ impl Heap {
         let alloc = self.alloc;
         self.objects[o.0 as usize].add(alloc, name, v)?;
         Ok(Put::Done)
+    }
+
+    /// Puts a property in the place of the one that has its name, or last.
+    fn put_property(&mut self, o: ObjectId, name: &Units, entry: Entry) -> Result<(), AllocError>
+        requires there { o.0 < length self.old }
+        requires plain { IsPlainName (objects.class_of self.old o.0) name.now }
+        ensures ok { OnOk result
+            (self.new ≡ changes.with_property o.0 (property_of name.now entry) self.old) }
+        ensures err { OnErr result (self.new ≡ self.old) }
+    {
+        let alloc = self.alloc;
+        self.objects[o.0 as usize].put_property(alloc, name, entry)
+    }
+
+    /// Defines a property, in the place of the one that has its name, or last.
+    pub fn define(
+        &mut self,
+        o: ObjectId,
+        name: &Units,
+        v: Value,
+        attrs: Attrs,
+    ) -> Result<(), AllocError>
+        requires there { o.0 < length self.old }
+        requires unshared { IsUnshared (objects.own_of self.old o.0 name.now) }
+        requires plain { IsPlainName (objects.class_of self.old o.0) name.now }
+        ensures ok { OnOk result (self.new ≡ changes.defined o.0 name.now v attrs self.old) }
+        ensures err { OnErr result (self.new ≡ self.old) }
+    {
+        self.put_property(o, name, Entry::Holds(attrs, v))
+    }
+
+    /// [[Delete]] (ES3 8.6.2.5): whether the property is not there then. It stays where it is
+    /// DontDelete.
+    pub fn delete(&mut self, o: ObjectId, name: &Units) -> bool
+        requires { o.0 < length self.old }
+        ensures what { result ≡ changes.can_delete self.old o.0 name.now }
+        ensures after { self.new ≡ changes.deleted o.0 name.now self.old }
+    {
+        self.objects[o.0 as usize].delete(name)
+    }
+
+    /// Makes an index of an `arguments` share its value with a place of a scope (ES3 10.1.8).
+    pub fn share(
+        &mut self,
+        o: ObjectId,
+        index: u64,
+        scope: u64,
+        slot: u64,
+    ) -> Result<(), AllocError>
+        requires class { objects.class_of self.old o.0 ≡ Some class.Arguments }
+        requires absent { objects.own_of self.old o.0 (names.decimal index) ≡ None }
+        ensures ok { OnOk result (self.new ≡ changes.shared o.0 index scope slot self.old) }
+        ensures err { OnErr result (self.new ≡ self.old) }
+    {
+        let name = decimal(self.alloc, index)?;
+        self.put_property(o, &name, Entry::Shares(scope, slot))
     }
 
     /// Makes an object, which comes last. An array begins with `length` 0 (ES3 15.4.5.2). It finds

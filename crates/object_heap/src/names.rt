@@ -1,10 +1,13 @@
-ghost use Rattle.std.specs.Prelude.{◌≡◌, ◌^◌, true, min};
-ghost use Rattle.std.specs.Char.{digit_value};
+ghost use Rattle.std.specs.Prelude.{◌≡◌, ◌<◌, ◌^◌, ◌++◌, true, min, IfOk, OnOk};
+ghost use Rattle.std.specs.Char.{digit_char, digit_value};
 ghost use Rattle.std.specs.List.{list_all};
 ghost use Rattle.std.specs.Str.Parse.{digits_value};
 ghost use Rattle.js_values.specs.NumberTexts as spec;
 ghost use Rattle.object_heap.specs.Arrays as arrays;
 ghost use Rattle.object_heap.specs.Names as names;
+
+use dl_text::Units;
+use std::alloc::{AllocError, Global};
 
 /// 2^53, from where on all numbers are too large.
 const LIMIT: u64 = 1 << 53;
@@ -100,4 +103,33 @@ pub(crate) fn is_between(new: u32, old: u32, index: Option<u32>) -> bool
         Some(k) => new <= k && k < old,
         None => false,
     }
+}
+
+/// The character of a digit.
+fn digit(value: u64) -> u16
+    requires { value < 10 }
+    ensures { result ≡ digit_char value }
+{
+    b'0' as u16 + value as u16
+}
+
+/// Adds the digits of a number, the highest first.
+#[tactic(auto, using(js_values::proofs::Digits::digits_texts))]
+fn push_decimal(text: &mut Units, value: u64) -> Result<(), AllocError>
+    ensures { OnOk result (text.new ≡ text.old ++ names.decimal value) }
+{
+    if value < 10 {
+        return text.push(digit(value));
+    }
+    push_decimal(text, value / 10)?;
+    text.push(digit(value % 10))
+}
+
+/// The text of a whole number (ES3 9.8.1).
+pub(crate) fn decimal(alloc: Global, value: u64) -> Result<Units, AllocError>
+    ensures { IfOk result (λ text. text ≡ names.decimal value) }
+{
+    let mut text = Units::new(alloc);
+    push_decimal(&mut text, value)?;
+    Ok(text)
 }

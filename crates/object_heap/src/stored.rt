@@ -1,6 +1,7 @@
-ghost use Rattle.std.specs.Prelude.{◌≡◌, None, OnOk, OnErr};
+ghost use Rattle.std.specs.Prelude.{◌≡◌, if◌then◌else◌, None, Some, OnOk, OnErr};
 ghost use Rattle.std.specs.Option.{option_copied, option_map};
-ghost use Rattle.object_heap.specs.Changes.{put_property, without};
+ghost use Rattle.object_heap.specs.Answers.{IsPlainName};
+ghost use Rattle.object_heap.specs.Changes.{is_deletable, put_property, without};
 ghost use Rattle.object_heap.specs.Invariant.{HasLength};
 ghost use Rattle.object_heap.specs.Names as names;
 ghost use Rattle.object_heap.specs.Objects.{own_in, with_properties};
@@ -60,18 +61,32 @@ impl StoredObject {
         name: &Units,
         entry: Entry,
     ) -> Result<(), AllocError>
+        requires has_length { HasLength self.old.class self.old.properties }
+        requires plain { IsPlainName (Some self.old.class) name.now }
         ensures ok { OnOk result (self.new ≡ with_properties self.old
             (put_property self.old.properties (property_of name.now entry))) }
         ensures err { OnErr result (self.new ≡ self.old) }
+        ensures has_length { HasLength self.new.class self.new.properties }
     {
         self.properties.put_property(alloc, name, entry)
     }
 
-    /// Takes the property of this name out.
-    pub(crate) fn remove(&mut self, name: &Units)
-        ensures { self.new ≡ with_properties self.old (without self.old.properties name.now) }
+    /// [[Delete]] (ES3 8.6.2.5): whether the property is not there then.
+    #[tactic(auto, using(crate::proofs::Writing::absent_stays))]
+    pub(crate) fn delete(&mut self, name: &Units) -> bool
+        requires { HasLength self.old.class self.old.properties }
+        ensures what { result ≡ is_deletable (own_in self.old.properties name.now) }
+        ensures after { self.new ≡ with_properties self.old
+            (if result then without self.old.properties name.now else self.old.properties) }
+        ensures has_length { HasLength self.new.class self.new.properties }
     {
-        self.properties.remove(name);
+        if let Some(entry) = self.properties.get(name) {
+            if entry.attributes().fixed {
+                return false;
+            }
+            self.properties.remove(name);
+        }
+        true
     }
 
     /// Makes an array longer, where its property of this name is an index at or behind its length.
