@@ -11,5 +11,6 @@ pub mod Invariant
 pub mod Answers
 pub mod BuiltIns
 pub mod Start
+pub mod Building
 pub mod Laws
 pub mod Rows

@@ -18,6 +18,8 @@ mod names;
 mod object;
 mod properties;
 mod rows;
+mod start;
+mod start_objects;
 mod start_rows;
 mod stored;
 mod table;
