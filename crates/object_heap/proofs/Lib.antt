@@ -6,3 +6,4 @@ pub mod Chains
 pub mod Writing
 pub mod Puts
 pub mod Changing
+pub mod Starting

@@ -46,7 +46,7 @@ down n (x ∷ xs) h (suc o) p e = let lt = down (suc n) xs (both (is_below n x.p
 starts_down : go_down 0 heap_at_start ≡ true
 starts_down = refl
 
-at_first : PrototypesComeBefore heap_at_start
+pub at_first : PrototypesComeBefore heap_at_start
 at_first o p e = let lt = down 0 heap_at_start starts_down o p e in omega (arith, lt)
 
 -- ---- one more object

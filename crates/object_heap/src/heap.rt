@@ -10,6 +10,7 @@ ghost use Rattle.object_heap.specs.Laws.{IsThere};
 ghost use Rattle.object_heap.specs.Names as names;
 ghost use Rattle.object_heap.specs.Objects as objects;
 ghost use Rattle.object_heap.specs.Put as writes;
+ghost use Rattle.object_heap.specs.Start.{heap_at_start};
 ghost use Rattle.object_heap.specs.Stored.{property_of};
 
 use crate::answer::{HeapError, Prop, Put};
@@ -19,6 +20,8 @@ use crate::entry::{Entry, HIDDEN_AND_FIXED, Written};
 use crate::names::decimal;
 use crate::object::{Attrs, Class};
 use crate::properties::Properties;
+use crate::start::units_of_name;
+use crate::start_objects::objects;
 use crate::stored::StoredObject;
 use dl_text::Units;
 use js_values::{Num, ObjectId, Value};
@@ -51,6 +54,19 @@ impl Model for Heap {
 }
 
 impl Heap {
+    /// The objects that are there at the start (ES3 15).
+    pub fn new(alloc: Global) -> Result<Heap, AllocError>
+        ensures { IfOk result (λ heap. heap ≡ heap_at_start) }
+    {
+        let objects = objects(alloc, BUILT_INS.as_slice())?;
+        let length = units_of_name(alloc, b"length")?;
+        Ok(Heap {
+            alloc,
+            length,
+            objects,
+        })
+    }
+
     /// The class of an object.
     pub fn class(&self, o: ObjectId) -> Class
         requires { o.0 < length self.now }

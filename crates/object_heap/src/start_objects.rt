@@ -1,5 +1,5 @@
 //! The objects of the start by their names, as in `specs/Start.antt`.
-ghost use Rattle.std.specs.Prelude.{◌≡◌, [], Some, IfOk};
+ghost use Rattle.std.specs.Prelude.{◌≡◌, [], map, Some, IfOk};
 ghost use Rattle.object_heap.specs.Building.{members, object_of, put_all};
 ghost use Rattle.object_heap.specs.Start as start;
 
@@ -196,8 +196,19 @@ fn function(alloc: Global, length: u32) -> Result<StoredObject, AllocError>
     function_with(alloc, length, None, &[])
 }
 
+/// These objects, in order.
+pub(crate) fn objects(alloc: Global, all: &[BuiltIn]) -> Result<Vec<StoredObject>, AllocError>
+    ensures { IfOk result (λ objects. objects.items ≡ map start.object all.now) }
+{
+    let mut objects = Vec::with_capacity(alloc, all.len())?;
+    for b in all {
+        objects.push(object(alloc, *b)?)?;
+    }
+    Ok(objects)
+}
+
 /// One of the objects.
-pub(crate) fn object(alloc: Global, b: BuiltIn) -> Result<StoredObject, AllocError>
+fn object(alloc: Global, b: BuiltIn) -> Result<StoredObject, AllocError>
     ensures { IfOk result (λ object. object ≡ start.object b) }
 {
     match b {
