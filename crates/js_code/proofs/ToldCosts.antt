@@ -7,7 +7,8 @@ use Rattle.js_tree.specs.declared.tree.BinaryOp.{BinaryOp}
 use Rattle.js_tree.specs.declared.tree.BinaryOp.TheVariants as binary
 use Rattle.js_tree.specs.declared.tree.PrefixOp.{PrefixOp}
 use Rattle.js_tree.specs.declared.tree.PrefixOp.TheVariants as prefix
-use Rattle.js_code.specs.Costs.{told, raised, joined, prefix_cost, binary_cost}
+use Rattle.js_tree.specs.Tree.{Expr, Prefix, Binary}
+use Rattle.js_code.specs.Costs.{told, raised, joined, prefix_cost, binary_cost, cost}
 
 told_small : (n : ℕ) → n ≤ 1000 → told n ≡ n
 told_small n h = grind (arith, nat_tests)
@@ -58,7 +59,7 @@ joined_by_size m n (inr h) (inr g) =
 joined_told : (m n : ℕ) → told (joined (told m) (told n)) ≡ told (joined m n)
 joined_told m n = joined_by_size m n (cases_lt 1000 m) (cases_lt 1000 n)
 
-pub prefix_told : (op : PrefixOp) (n : ℕ) → told (prefix_cost op (told n)) ≡ told (prefix_cost op n)
+prefix_told : (op : PrefixOp) (n : ℕ) → told (prefix_cost op (told n)) ≡ told (prefix_cost op n)
 prefix_told prefix.Delete n = refl
 prefix_told prefix.Void n = raised_told n
 prefix_told prefix.TypeOf n = refl
@@ -69,7 +70,7 @@ prefix_told prefix.Minus n = raised_told n
 prefix_told prefix.BitNot n = raised_told n
 prefix_told prefix.Not n = raised_told n
 
-pub binary_told
+binary_told
     : (op : BinaryOp) (m n : ℕ)
     → told (binary_cost op (told m) (told n)) ≡ told (binary_cost op m n)
 binary_told binary.BitOr m n = joined_told m n
@@ -93,3 +94,18 @@ binary_told binary.Subtract m n = joined_told m n
 binary_told binary.Multiply m n = joined_told m n
 binary_told binary.Divide m n = joined_told m n
 binary_told binary.Remainder m n = joined_told m n
+
+pub prefix_kept
+    : (op : PrefixOp) (operand : Expr) (n c : ℕ) → c ≡ told (prefix_cost op n)
+    → n ≡ told (cost operand) → c ≡ told (cost (Prefix op operand))
+prefix_kept op operand n c e same =
+    e ∙ (ap (λ k. told (prefix_cost op k)) same ∙ prefix_told op (cost operand))
+
+pub binary_kept
+    : (op : BinaryOp) (left right : Expr) (m n c : ℕ) → c ≡ told (binary_cost op m n)
+    → m ≡ told (cost left) → n ≡ told (cost right) → c ≡ told (cost (Binary op left right))
+binary_kept op left right m n c e first second =
+    e
+    ∙ (ap (λ k. told (binary_cost op k n)) first
+    ∙ (ap (λ k. told (binary_cost op (told (cost left)) k)) second
+    ∙ binary_told op (cost left) (cost right)))

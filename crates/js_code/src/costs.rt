@@ -25,7 +25,6 @@ impl ExprCode {
 
 impl ExprNode {
     /// A prefix operation, with its cost.
-    #[tactic(auto, using(crate::proofs::ToldCosts::prefix_told))]
     pub(crate) fn prefix(op: PrefixOp, operand: ExprCode) -> ExprNode
         ensures layer { expr_layer result ≡ Expr-F.Prefix op operand }
         ensures cost { CostFits result }
@@ -35,7 +34,6 @@ impl ExprNode {
     }
 
     /// A binary operation, with its cost.
-    #[tactic(auto, using(crate::proofs::ToldCosts::binary_told))]
     pub(crate) fn binary(op: BinaryOp, left: ExprCode, right: ExprCode) -> ExprNode
         ensures layer { expr_layer result ≡ Expr-F.Binary op left right }
         ensures cost { CostFits result }

@@ -9,6 +9,8 @@ mod exprs;
 mod funcs;
 mod parts;
 mod stmts;
+#[cfg(test)]
+mod tests;
 
 pub use exprs::{ElementCodes, ExprCode, ExprCodes, ExprNode, PairCode, PairCodes};
 pub use funcs::{BodyCode, FuncCode, FuncNode};

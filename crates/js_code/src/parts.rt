@@ -50,7 +50,7 @@ pub struct ForInParts<'a> {
 #[derive(Clone, Copy)]
 pub struct TryParts<'a> {
     pub block: &'a StmtCode,
-    pub handler: &'a Option<(Units, StmtCode)>,
+    pub handler: Option<&'a (Units, StmtCode)>,
     pub last: Option<&'a StmtCode>,
 }
 
@@ -215,14 +215,14 @@ impl StmtCode {
             (try_parts (view.stmt self.now) ≡ None)
             (λ p. try_parts (view.stmt self.now) ≡ Some (record {
               block = view.stmt p.block.now;
-              handler = parts.handler p.handler.now;
+              handler = parts.handler (option_copied p.handler);
               last = parts.maybe_stmt (option_copied p.last);
             })) }
     {
         match self.node() {
             StmtNode::Try(block, handler, last) => Some(TryParts {
                 block,
-                handler,
+                handler: handler.as_ref(),
                 last: last.as_ref(),
             }),
             StmtNode::Block(_)
