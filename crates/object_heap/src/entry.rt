@@ -66,8 +66,8 @@ impl Entry {
 
     /// Writes a value, unless the property is read-only or shares its value.
     pub(crate) fn write(&mut self, v: Value) -> Written
-        ensures what { result
-            ≡ writes.written_by (stored.attributes_of self.old).read_only (stored.slot_of self.old) }
+        ensures what { result ≡ writes.written_by
+            (stored.attributes_of self.old).read_only (stored.slot_of self.old) }
         ensures after { self.new ≡ writes.entry_after result self.old v }
     {
         match self {

@@ -162,8 +162,8 @@ impl Properties {
     /// 15).
     #[tactic(auto, using(crate::proofs::Writing::nothing_cut))]
     pub(crate) fn put_length(&mut self, v: &Value) -> Result<Written, HeapError>
-        ensures what { result
-            ≡ writes.length_answer (writes.is_first_read_only self.old) (arrays.length_value v.now) }
+        ensures what { result ≡ writes.length_answer
+            (writes.is_first_read_only self.old) (arrays.length_value v.now) }
         ensures after { self.new ≡ writes.length_after (writes.is_first_read_only self.old) self.old
             (arrays.length_value v.now) }
     {

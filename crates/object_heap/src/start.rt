@@ -49,8 +49,8 @@ pub(crate) fn put(
     v: Value,
     attributes: Attrs,
 ) -> Result<(), AllocError>
-    ensures { OnOk result
-        (properties.new ≡ changes.put_property properties.old (changes.holding name.now v attributes)) }
+    ensures { OnOk result (properties.new
+        ≡ changes.put_property properties.old (changes.holding name.now v attributes)) }
 {
     let name = units_of_name(alloc, name)?;
     properties.put_property(alloc, &name, Entry::Holds(attributes, v))

@@ -27,7 +27,8 @@ pub(crate) fn get<'a>(table: &'a Table, name: &Units) -> Option<&'a Entry>
 
 /// Writes to the property of this name, unless it is read-only or shares its value.
 pub(crate) fn write(table: &mut Table, name: &Units, v: Value) -> Written
-    ensures what { result ≡ written_own (own_in (properties_of_entries table.old.entries) name.now) v }
+    ensures what { result
+        ≡ written_own (own_in (properties_of_entries table.old.entries) name.now) v }
     ensures after { properties_of_entries table.new.entries
         ≡ properties_after result (properties_of_entries table.old.entries) name.now v }
 {
