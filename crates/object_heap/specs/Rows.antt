@@ -85,8 +85,11 @@ prototypes_on bs = map (λ b. found_at (named_on (Some (number_of b)) (codes "pr
 abbrev pub names_of : BuiltIn → List Name
 names_of b = map (λ p. p.name) (properties_of heap_at_start (number_of b))
 
+abbrev pub attributes_in_order : ℕ → List Attrs
+attributes_in_order o = map (λ p. p.attributes) (properties_of heap_at_start o)
+
 abbrev pub attributes_at : BuiltIn → List Attrs
-attributes_at b = map (λ p. p.attributes) (properties_of heap_at_start (number_of b))
+attributes_at b = attributes_in_order (number_of b)
 
 abbrev pub value_at : BuiltIn → Name → Option Slot
 value_at b name = option_map (λ p. p.slot) (own_of heap_at_start (number_of b) name)

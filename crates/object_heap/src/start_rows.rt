@@ -168,4 +168,12 @@ pub fn kinds_at_start()
         ++ replicate 52 (Some 1) }
     ensures nothing_is_visited { map (keys heap_at_start) (row.numbers_from 0 65)
         ≡ replicate 65 [] }
+    ensures attributes { map row.attributes_in_order (row.numbers_from 0 65)
+        ≡ replicate 6 hidden_only ∷ (all_three ∷ replicate 4 hidden_only)
+        ∷ (hidden_and_fixed ∷ replicate 11 hidden_only) ∷ replicate 11 hidden_only
+        ∷ replicate 3 hidden_only ∷ replicate 3 hidden_only ∷ replicate 4 hidden_only
+        ∷ replicate 3 (replicate 3 hidden_only) ++ replicate 6 hidden_only ∷ (hidden_only ∷ [])
+        ∷ (replicate 2 hidden_and_fixed ++ replicate 13 hidden_only)
+        ∷ replicate 2 (replicate 2 all_three) ++ (all_three ∷ all_three ∷ hidden_only ∷ [])
+        ∷ replicate 6 (replicate 2 all_three) ++ replicate 43 (all_three ∷ []) }
 {}
