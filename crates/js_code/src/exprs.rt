@@ -13,16 +13,26 @@ use dl_text::Units;
 use js_tree::{BinaryOp, PostfixOp, PrefixOp};
 use std::alloc::{AllocError, Global};
 use std::marker::Model;
+use std::mem::size_of;
 use std::rc::Rc;
 
-/// An expression.
+// Frames hold them.
+const _: () = prove!(size_of::<ExprCode>() <= 8);
+
+const _: () = prove!(size_of::<ExprCodes>() <= 8);
+
+const _: () = prove!(size_of::<ElementCodes>() <= 8);
+
+const _: () = prove!(size_of::<PairCodes>() <= 8);
+
+/// An expression (ES3 section 11), which contracts see as its tree.
 #[cycle(code)]
 #[derive(Drop)]
 pub struct ExprCode {
     node: Rc<ExprNode>,
 }
 
-/// An expression's node, whose parts are code.
+/// What kind of expression it is, with its parts. The kinds are those of `js_tree::Expr`.
 #[cycle(code)]
 #[derive(Drop)]
 pub enum ExprNode {
@@ -40,9 +50,9 @@ pub enum ExprNode {
     Call(ExprCode, ExprCodes),
     New(ExprCode, ExprCodes),
     Postfix(ExprCode, PostfixOp),
-    /// With its cost, or 0.
+    /// The number is what `cost` tells.
     Prefix(PrefixOp, u32, ExprCode),
-    /// With its cost, or 0.
+    /// The number is what `cost` tells.
     Binary(BinaryOp, u32, ExprCode, ExprCode),
     And(ExprCode, ExprCode),
     Or(ExprCode, ExprCode),
@@ -53,7 +63,7 @@ pub enum ExprNode {
     Late(u32),
 }
 
-/// The arguments of a call.
+/// The arguments of a call, which contracts see as the list of their trees.
 #[cycle(code)]
 #[derive(Drop)]
 pub struct ExprCodes {
@@ -74,6 +84,7 @@ pub struct PairCodes {
     items: Rc<Vec<PairCode>>,
 }
 
+/// A key of an object literal and its value.
 #[cycle(code)]
 #[derive(Drop)]
 pub struct PairCode {
@@ -84,11 +95,10 @@ pub struct PairCode {
 impl Model for ExprCode {
     ghost use Rattle.js_tree.specs.declared.tree.Expr.{Expr};
     ghost use Rattle.js_tree.specs.contracts.tree.Expr as t;
-    ghost use Rattle.std.specs.Coded.{codes};
 
     ghost Value = { Expr };
 
-    ghost coded = { Prim.hlevel (codes, t.the_row.coded) };
+    ghost coded = { t.the_row.coded };
 
     ghost use Rattle.js_tree.specs.declared.tree.Expr.TheViews.{roll-Expr};
     ghost use Rattle.js_code.specs.View.{expr_layer};
@@ -111,11 +121,11 @@ impl Model for ExprCodes {
     ghost use Rattle.std.specs.Prelude.{List};
     ghost use Rattle.js_tree.specs.declared.tree.Expr.{Expr};
     ghost use Rattle.js_tree.specs.contracts.tree.Expr as t;
-    ghost use Rattle.std.specs.Coded.{codes, coded_list};
+    ghost use Rattle.std.specs.Coded.{coded_list};
 
     ghost Value = { List Expr };
 
-    ghost coded = { coded_list (Prim.hlevel (codes, t.the_row.coded)) };
+    ghost coded = { coded_list t.the_row.coded };
 
     ghost use Rattle.js_code.specs.Size.{exprs_size};
 
@@ -133,11 +143,11 @@ impl Model for ElementCodes {
     ghost use Rattle.std.specs.Prelude.{List, Option};
     ghost use Rattle.js_tree.specs.declared.tree.Expr.{Expr};
     ghost use Rattle.js_tree.specs.contracts.tree.Expr as t;
-    ghost use Rattle.std.specs.Coded.{codes, coded_list, coded_option};
+    ghost use Rattle.std.specs.Coded.{coded_list, coded_option};
 
     ghost Value = { List (Option Expr) };
 
-    ghost coded = { coded_list (coded_option (Prim.hlevel (codes, t.the_row.coded))) };
+    ghost coded = { coded_list (coded_option t.the_row.coded) };
 
     ghost use Rattle.js_code.specs.Size.{elements_size};
 
@@ -155,11 +165,11 @@ impl Model for PairCodes {
     ghost use Rattle.std.specs.Prelude.{List, map};
     ghost use Rattle.js_tree.specs.declared.tree.Pair.{Pair};
     ghost use Rattle.js_tree.specs.contracts.tree.Pair as t;
-    ghost use Rattle.std.specs.Coded.{codes, coded_list};
+    ghost use Rattle.std.specs.Coded.{coded_list};
 
     ghost Value = { List Pair };
 
-    ghost coded = { coded_list (Prim.hlevel (codes, t.the_row.coded)) };
+    ghost coded = { coded_list t.the_row.coded };
 
     ghost use Rattle.js_code.specs.View.{pair_of};
     ghost use Rattle.js_code.specs.Size.{pairs_size};

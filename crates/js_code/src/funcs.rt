@@ -12,15 +12,20 @@ use dl_text::{Names, Units};
 use js_tree::Role;
 use std::alloc::{AllocError, Global};
 use std::marker::Model;
+use std::mem::size_of;
 use std::rc::Rc;
 
-/// A function.
+// Frames and function objects hold them.
+const _: () = prove!(size_of::<FuncCode>() <= 8);
+
+/// A function (ES3 section 13), which contracts see as its tree.
 #[cycle(code)]
 #[derive(Drop)]
 pub struct FuncCode {
     node: Rc<FuncNode>,
 }
 
+/// The parts of a function.
 #[cycle(code)]
 #[derive(Drop)]
 pub struct FuncNode {
@@ -31,7 +36,8 @@ pub struct FuncNode {
     pub role: Role,
 }
 
-/// The statements of a script or of a function, with what they bind.
+/// The statements of a script or of a function's body, with what they bind, listed once. Contracts
+/// see the list of the statements' trees.
 #[cycle(code)]
 #[derive(Drop)]
 pub struct BodyCode {
@@ -43,11 +49,10 @@ pub struct BodyCode {
 impl Model for FuncCode {
     ghost use Rattle.js_tree.specs.declared.tree.Func.{Func};
     ghost use Rattle.js_tree.specs.contracts.tree.Func as t;
-    ghost use Rattle.std.specs.Coded.{codes};
 
     ghost Value = { Func };
 
-    ghost coded = { Prim.hlevel (codes, t.the_row.coded) };
+    ghost coded = { t.the_row.coded };
 
     ghost use Rattle.js_tree.specs.declared.tree.Expr.TheViews.{roll-Func};
     ghost use Rattle.js_code.specs.Projections.{body_of, formals_of, name_of, number_of, role_of};
@@ -68,11 +73,11 @@ impl Model for BodyCode {
     ghost use Rattle.std.specs.Prelude.{List};
     ghost use Rattle.js_tree.specs.declared.tree.Stmt.{Stmt};
     ghost use Rattle.js_tree.specs.contracts.tree.Stmt as t;
-    ghost use Rattle.std.specs.Coded.{codes, coded_list};
+    ghost use Rattle.std.specs.Coded.{coded_list};
 
     ghost Value = { List Stmt };
 
-    ghost coded = { coded_list (Prim.hlevel (codes, t.the_row.coded)) };
+    ghost coded = { coded_list t.the_row.coded };
 
     ghost use Rattle.js_code.specs.Bound.{Lists};
     ghost use Rattle.js_code.specs.Size.{body_size};

@@ -12,16 +12,26 @@ use crate::funcs::FuncCode;
 use dl_text::Units;
 use std::alloc::{AllocError, Global};
 use std::marker::Model;
+use std::mem::size_of;
 use std::rc::Rc;
 
-/// A statement or a declaration.
+// Frames hold them.
+const _: () = prove!(size_of::<StmtCode>() <= 8);
+
+const _: () = prove!(size_of::<StmtCodes>() <= 8);
+
+const _: () = prove!(size_of::<VarCodes>() <= 8);
+
+const _: () = prove!(size_of::<CaseCodes>() <= 8);
+
+/// A statement (ES3 section 12) or a declaration (ES3 section 13), which contracts see as its tree.
 #[cycle(code)]
 #[derive(Drop)]
 pub struct StmtCode {
     node: Rc<StmtNode>,
 }
 
-/// A statement's node, whose parts are code.
+/// What kind of statement it is, with its parts. The kinds are those of `js_tree::Stmt`.
 #[cycle(code)]
 #[derive(Drop)]
 pub enum StmtNode {
@@ -62,7 +72,7 @@ pub enum ForTargetNode {
     Target(ExprCode),
 }
 
-/// A list of statements.
+/// A list of statements, which contracts see as the list of their trees.
 #[cycle(code)]
 #[derive(Drop)]
 pub struct StmtCodes {
@@ -76,6 +86,7 @@ pub struct VarCodes {
     items: Rc<Vec<VarCode>>,
 }
 
+/// A declarator of a `var` list.
 #[cycle(code)]
 #[derive(Drop)]
 pub struct VarCode {
@@ -90,7 +101,7 @@ pub struct CaseCodes {
     items: Rc<Vec<CaseCode>>,
 }
 
-/// A test of None is `default`.
+/// A clause of a `switch`; a test of None is `default`.
 #[cycle(code)]
 #[derive(Drop)]
 pub struct CaseCode {
@@ -101,11 +112,10 @@ pub struct CaseCode {
 impl Model for StmtCode {
     ghost use Rattle.js_tree.specs.declared.tree.Stmt.{Stmt};
     ghost use Rattle.js_tree.specs.contracts.tree.Stmt as t;
-    ghost use Rattle.std.specs.Coded.{codes};
 
     ghost Value = { Stmt };
 
-    ghost coded = { Prim.hlevel (codes, t.the_row.coded) };
+    ghost coded = { t.the_row.coded };
 
     ghost use Rattle.js_tree.specs.declared.tree.Expr.TheViews.{roll-Stmt};
     ghost use Rattle.js_code.specs.View.{stmt_layer};
@@ -125,11 +135,11 @@ impl Model for StmtCodes {
     ghost use Rattle.std.specs.Prelude.{List};
     ghost use Rattle.js_tree.specs.declared.tree.Stmt.{Stmt};
     ghost use Rattle.js_tree.specs.contracts.tree.Stmt as t;
-    ghost use Rattle.std.specs.Coded.{codes, coded_list};
+    ghost use Rattle.std.specs.Coded.{coded_list};
 
     ghost Value = { List Stmt };
 
-    ghost coded = { coded_list (Prim.hlevel (codes, t.the_row.coded)) };
+    ghost coded = { coded_list t.the_row.coded };
 
     ghost use Rattle.js_code.specs.Size.{stmts_size};
 
@@ -147,11 +157,11 @@ impl Model for VarCodes {
     ghost use Rattle.std.specs.Prelude.{List, map};
     ghost use Rattle.js_tree.specs.declared.tree.VarItem.{VarItem};
     ghost use Rattle.js_tree.specs.contracts.tree.VarItem as t;
-    ghost use Rattle.std.specs.Coded.{codes, coded_list};
+    ghost use Rattle.std.specs.Coded.{coded_list};
 
     ghost Value = { List VarItem };
 
-    ghost coded = { coded_list (Prim.hlevel (codes, t.the_row.coded)) };
+    ghost coded = { coded_list t.the_row.coded };
 
     ghost use Rattle.js_code.specs.View.{var_item_of};
     ghost use Rattle.js_code.specs.Size.{var_items_size};
@@ -170,11 +180,11 @@ impl Model for CaseCodes {
     ghost use Rattle.std.specs.Prelude.{List, map};
     ghost use Rattle.js_tree.specs.declared.tree.Case.{Case};
     ghost use Rattle.js_tree.specs.contracts.tree.Case as t;
-    ghost use Rattle.std.specs.Coded.{codes, coded_list};
+    ghost use Rattle.std.specs.Coded.{coded_list};
 
     ghost Value = { List Case };
 
-    ghost coded = { coded_list (Prim.hlevel (codes, t.the_row.coded)) };
+    ghost coded = { coded_list t.the_row.coded };
 
     ghost use Rattle.js_code.specs.View.{case_of};
     ghost use Rattle.js_code.specs.Size.{cases_size};
