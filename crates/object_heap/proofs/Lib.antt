@@ -7,3 +7,4 @@ pub mod Writing
 pub mod Puts
 pub mod Changing
 pub mod Starting
+pub mod Visiting

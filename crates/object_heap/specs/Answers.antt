@@ -1,5 +1,6 @@
 -- What the calls of a heap answer, in the words of the definitions.
 use Rattle.std.specs.Prelude.{◌≡◌, ℕ, true, false, Option, Some, None, option_map, Result, Ok, Err}
+use Rattle.std.specs.Prelude.{List, [], ◌∷◌, ◌++◌}
 use Rattle.js_values.specs.declared.value.ObjectId.{ObjectId}
 use Rattle.object_heap.specs.declared.answer.Prop.{Prop}
 use Rattle.object_heap.specs.declared.answer.Prop.TheVariants as prop
@@ -7,10 +8,12 @@ use Rattle.object_heap.specs.declared.answer.Put.{Put}
 use Rattle.object_heap.specs.declared.answer.Put.TheVariants as answer
 use Rattle.object_heap.specs.declared.answer.HeapError.{HeapError}
 use Rattle.object_heap.specs.declared.answer.HeapError.TheVariants.{BadLength, OutOfMemory}
+use Rattle.object_heap.specs.declared.visited.Visit.{Visit}
+use Rattle.object_heap.specs.Visited as visited
 use Rattle.object_heap.specs.declared.object.Class.{Class}
 use Rattle.object_heap.specs.declared.object.Class.TheVariants as class
 use Rattle.object_heap.specs.Names.{Name, is_same_name, length_name, index_of}
-use Rattle.object_heap.specs.Objects.{Slot, Holds, Shares, Property}
+use Rattle.object_heap.specs.Objects.{Slot, Holds, Shares, Property, Heap, properties_of}
 use Rattle.object_heap.specs.Invariant.{holds_value}
 use Rattle.object_heap.specs.Put as put
 
@@ -35,6 +38,16 @@ abbrev pub IsAnswer : Result Put HeapError → Result Put HeapError → Type 0
 IsAnswer (Ok done) expected = Ok done ≡ expected
 IsAnswer (Err BadLength) expected = Err BadLength ≡ expected
 IsAnswer (Err OutOfMemory) expected = Unit {0}
+
+-- ---- what a `for-in` visits
+
+abbrev pub visit_shown : Visit → visited.Visit
+visit_shown v = (v.object.0, v.name)
+
+-- the properties of several objects, one after another
+abbrev pub properties_along : Heap → List ℕ → List Property
+properties_along heap [] = []
+properties_along heap (o ∷ os) = properties_of heap o ++ properties_along heap os
 
 -- ---- what the calls ask for
 

@@ -1,7 +1,7 @@
-ghost use Rattle.std.specs.Prelude.{◌≡◌, ◌<◌, length, slice_get, OnOk, OnErr, IfOk, Some, None};
+ghost use Rattle.std.specs.Prelude.{◌≡◌, ◌<◌, length, map, slice_get, OnOk, OnErr, IfOk, Some, None};
 ghost use Rattle.std.specs.Option.{option_copied, option_map};
 ghost use Rattle.object_heap.specs.Answers.{IsAnswer, IsPlainName, IsUnshared, number};
-ghost use Rattle.object_heap.specs.Answers.{slot_shown, told};
+ghost use Rattle.object_heap.specs.Answers.{slot_shown, told, visit_shown};
 ghost use Rattle.object_heap.specs.declared.object.Class.TheVariants as class;
 ghost use Rattle.object_heap.specs.BuiltIns as built;
 ghost use Rattle.object_heap.specs.Changes as changes;
@@ -12,10 +12,10 @@ ghost use Rattle.object_heap.specs.Objects as objects;
 ghost use Rattle.object_heap.specs.Put as writes;
 ghost use Rattle.object_heap.specs.Start.{heap_at_start};
 ghost use Rattle.object_heap.specs.Stored.{property_of};
+ghost use Rattle.object_heap.specs.Visited as visited;
 
 use crate::answer::{HeapError, Prop, Put};
 use crate::built_in::{BUILT_INS, BuiltIn, built_in_at};
-use crate::chain;
 use crate::entry::{Entry, HIDDEN_AND_FIXED, Written};
 use crate::names::decimal;
 use crate::object::{Attrs, Class};
@@ -23,6 +23,8 @@ use crate::properties::Properties;
 use crate::start::units_of_name;
 use crate::start_objects::objects;
 use crate::stored::StoredObject;
+use crate::visited::Visit;
+use crate::{chain, visited};
 use dl_text::Units;
 use js_values::{Num, ObjectId, Value};
 use std::alloc::{AllocError, Global};
@@ -265,6 +267,23 @@ impl Heap {
             class,
         })?;
         Ok(ObjectId(count))
+    }
+
+    /// The own names that are not hidden, in the order in which they were made.
+    pub fn keys(&self, o: ObjectId) -> Result<Vec<Units>, AllocError>
+        requires { o.0 < length self.now }
+        ensures { IfOk result (λ names. names.items ≡ visited.keys self.now o.0) }
+    {
+        visited::keys(self.alloc, &self.objects[o.0 as usize])
+    }
+
+    /// What a `for-in` visits when it begins (ES3 12.6.4): names of the object and of its prototypes,
+    /// but for those that an object before has.
+    pub fn visits(&self, o: ObjectId) -> Result<Vec<Visit>, AllocError>
+        requires { o.0 < length self.now }
+        ensures { IfOk result (λ list. map visit_shown list.items ≡ visited.visits self.now o.0) }
+    {
+        visited::visits(self.alloc, self.objects.as_slice(), o.0 as u32)
     }
 
     /// The number of one of the objects that are there at the start.

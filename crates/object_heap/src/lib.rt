@@ -23,6 +23,7 @@ mod start_objects;
 mod start_rows;
 mod stored;
 mod table;
+mod visited;
 
 pub use answer::{HeapError, Prop, Put};
 pub use array_rows::{elements, indices, lengths};
@@ -35,3 +36,4 @@ pub use start_rows::{
     constructors, global_names, kinds_at_start, lengths_at_start, numbers_at_start,
     object_prototypes, other_prototypes,
 };
+pub use visited::Visit;

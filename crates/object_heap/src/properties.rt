@@ -1,4 +1,4 @@
-ghost use Rattle.std.specs.Prelude.{◌≡◌, [], length, not, slice_get, OnOk, OnErr};
+ghost use Rattle.std.specs.Prelude.{◌≡◌, ◌<◌, [], length, slice_get, Some, OnOk, OnErr};
 ghost use Rattle.std.specs.Option.{option_copied, option_map};
 ghost use Rattle.object_heap.specs.Arrays as arrays;
 ghost use Rattle.object_heap.specs.Arrays.{cut};
@@ -119,12 +119,22 @@ impl Properties {
     }
 
     /// The property at a place, counted from 0, by its name.
-    pub(crate) fn at(&self, place: usize) -> Option<(&Units, &Entry)>
-        ensures { option_map (λ p. property_of p.0.now p.1.now) result
-            ≡ slice_get self.now place }
+    pub(crate) fn at(&self, place: usize) -> (&Units, &Entry)
+        requires { place < length self.now }
+        ensures { slice_get self.now place ≡ Some (property_of result.0.now result.1.now) }
     {
         match &self.table {
-            Some(table) => table.get_index(place),
+            Some(table) => table.get_index(place).unwrap(),
+            None => unreachable!(),
+        }
+    }
+
+    /// The first property by its name, if there is one.
+    fn first(&self) -> Option<(&Units, &Entry)>
+        ensures { option_map (λ p. property_of p.0.now p.1.now) result ≡ slice_get self.now 0 }
+    {
+        match &self.table {
+            Some(table) => table.get_index(0),
             None => None,
         }
     }
@@ -133,7 +143,7 @@ impl Properties {
     pub(crate) fn first_length(&self) -> u32
         ensures { result ≡ writes.first_length self.now }
     {
-        match self.at(0) {
+        match self.first() {
             Some((_, Entry::Holds(_, v))) => length_value(v).unwrap_or(0),
             _ => 0,
         }
@@ -152,7 +162,7 @@ impl Properties {
     pub(crate) fn is_first_read_only(&self) -> bool
         ensures { result ≡ writes.is_first_read_only self.now }
     {
-        match self.at(0) {
+        match self.first() {
             Some((_, entry)) => entry.attributes().read_only,
             None => false,
         }

@@ -1,4 +1,4 @@
-ghost use Rattle.std.specs.Prelude.{◌≡◌, if◌then◌else◌, None, Some, OnOk, OnErr};
+ghost use Rattle.std.specs.Prelude.{◌≡◌, ◌<◌, if◌then◌else◌, is_some, length, slice_get, None, Some, OnOk, OnErr};
 ghost use Rattle.std.specs.Option.{option_copied, option_map};
 ghost use Rattle.object_heap.specs.Answers.{IsPlainName};
 ghost use Rattle.object_heap.specs.Changes.{is_deletable, put_property, without};
@@ -47,11 +47,34 @@ impl StoredObject {
         self.properties.get(name)
     }
 
+    /// Whether it has a property itself.
+    pub(crate) fn has(&self, name: &Units) -> bool
+        ensures { result ≡ is_some (own_in self.now.properties name.now) }
+    {
+        self.properties.get(name).is_some()
+    }
+
     /// [[Prototype]].
     pub(crate) fn prototype(&self) -> Option<u32>
         ensures { result ≡ self.now.prototype }
     {
         self.prototype
+    }
+
+    /// How many properties it has.
+    pub(crate) fn len(&self) -> usize
+        ensures { result ≡ length self.now.properties }
+    {
+        self.properties.len()
+    }
+
+    /// The property at a place, counted from 0, by its name.
+    pub(crate) fn at(&self, place: usize) -> (&Units, &Entry)
+        requires { place < length self.now.properties }
+        ensures { slice_get self.now.properties place
+            ≡ Some (property_of result.0.now result.1.now) }
+    {
+        self.properties.at(place)
     }
 
     /// Puts a property in the place of the one that has its name, or last.
