@@ -277,8 +277,8 @@ impl Heap {
         visited::keys(self.alloc, &self.objects[o.0 as usize])
     }
 
-    /// What a `for-in` visits when it begins (ES3 12.6.4): names of the object and of its prototypes,
-    /// but for those that an object before has.
+    /// What a `for-in` visits when it begins (ES3 12.6.4): names of the object and of its
+    /// prototypes, but for those that an object before has.
     pub fn visits(&self, o: ObjectId) -> Result<Vec<Visit>, AllocError>
         requires { o.0 < length self.now }
         ensures { IfOk result (λ list. map visit_shown list.items ≡ visited.visits self.now o.0) }
