@@ -1,10 +1,10 @@
 //! Objects and their properties (ES3 8.6, 15.4.5), and the objects that are there at the start (ES3
 //! 15). The layer above may know of a `Heap` the list of its objects, as `specs/Objects.antt` has
 //! them, what its calls read (`specs/Get.antt`, `specs/Visited.antt`), what a write or another call
-//! leaves (`specs/Put.antt`, `specs/Changes.antt`), the table of `specs/Start.antt`, and the laws in
-//! `laws`; nothing stands on the rows. A value that an index of `arguments` shares is in a scope:
-//! this layer tells the place alone. The code and the scope of a function are the machine's. How
-//! objects are stored stays here.
+//! leaves (`specs/Put.antt`, `specs/Changes.antt`), the table of `specs/Start.antt`, and the laws
+//! in `laws`; nothing stands on the rows. A value that an index of `arguments` shares is in a
+//! scope: this layer tells the place alone. The code and the scope of a function are the machine's.
+//! How objects are stored stays here.
 #![tactic(auto)]
 
 mod answer;
