@@ -43,7 +43,8 @@ pub fn equalities()
     ensures same { values small.identities ≡ out (map truth (true ∷ false ∷ false ∷ false ∷ true
         ∷ false ∷ false ∷ [])) ∷ [] }
     ensures with_objects { behind (tree.var tree.o empty ∷ []) small.with_objects
-        ≡ out (map truth (true ∷ true ∷ false ∷ false ∷ true ∷ true ∷ true ∷ true ∷ [])) ∷ [] }
+        ≡ out (map truth (true ∷ true ∷ false ∷ false ∷ true ∷ true ∷ true
+        ∷ true ∷ [])) ∷ [] }
     ensures tests { values small.tests ≡ out (map truth (true ∷ false ∷ true ∷ true ∷ true
         ∷ false ∷ [])) ∷ [] }
     ensures instance_of_number { caught (small.only (binary op.InstanceOf empty one))
