@@ -1,5 +1,6 @@
 -- A write to an object of the heap, by what its own write answers.
-use Rattle.std.proofs.Common.{◌≡◌, ℕ, zero, suc, ◌<◌, ◌≤◌, Bool, true, false, List, [], ◌∷◌, length, get_or, Option, Some, None, Ok, Err, refl, sym, ap, subst, ◌∙◌, arith}
+use Rattle.std.proofs.Common.{◌≡◌, ℕ, zero, suc, ◌<◌, ◌≤◌, Bool, true, false, List, [], ◌∷◌, length, get_or, Option, Some, None, Ok, Err, refl, sym, ap, subst, ◌∙◌, arith, nat_lt}
+use Rattle.std.proofs.lemmas.Bool.{ltb-true}
 use Rattle.std.specs.Prelude.{Result, slice_get, slice_set, option_map, not, if◌then◌else◌}
 use Rattle.std.proofs.lemmas.Option.{slice_get_read}
 use Rattle.js_values.specs.declared.value.Value.{Value}
@@ -41,6 +42,7 @@ heap_changed heap o object ps shared at h is = record {
   prototypes_before = change_keeps heap o object ps at is.prototypes_before;
   arrays_have_length = λ q. lengths_set heap o (with_properties object ps) q h (is.arrays_have_length q);
   numbered = rw (length_set heap o (with_properties object ps)) is.numbered;
+  at_start = rw (length_set heap o (with_properties object ps)) is.at_start;
   named = is.named;
 }
 
@@ -164,6 +166,9 @@ module _ (heap : Heap) (before : PrototypesComeBefore heap) (o : ℕ) (name : Na
       in_parts heap before o object at name v true None (Some (added object.class object.properties name v)) (can_further ∙ can_be) own (added_by object.class object.properties name v has own)
 
 -- ---- as the code reads it
+
+pub is_there : (heap : Heap) (o : ℕ) (there : Bool) → there ≡ nat_lt o (length heap) → there ≡ true → o < length heap
+is_there heap o there tested is = ltb-true o (length heap) (sym tested ∙ is)
 
 pub read_at : (heap now : Heap) (o : ℕ) (object : Object) → heap ≡ now → o < length now → object ≡ get_or heap o object → slice_get now o ≡ Some object
 read_at heap now o object e lt is = slice_get_read now (length now) o object refl lt (is ∙ ap (λ h. get_or h o object) e)

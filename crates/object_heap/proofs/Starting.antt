@@ -60,5 +60,6 @@ is_heap_at_first shared named = record {
   prototypes_before = at_first;
   arrays_have_length = lengths_at_first;
   numbered = lit≤ tt;
+  at_start = lit≤ tt;
   named = named;
 }

@@ -41,9 +41,14 @@ ArraysHaveLength heap = (o : ℕ) → ObjectHasLength (slice_get heap o)
 abbrev pub most_objects : ℕ
 most_objects = 4294967295
 
+abbrev pub objects_at_start : ℕ
+objects_at_start = 65
+
 pub record IsHeap (heap : Heap) (name : Name) : Type 0 where
   pub prototypes_before : PrototypesComeBefore heap
   pub arrays_have_length : ArraysHaveLength heap
   pub numbered : length heap ≤ most_objects
+  -- the objects of the start are there
+  pub at_start : objects_at_start ≤ length heap
   -- the name that arrays share
   pub named : name ≡ length_name

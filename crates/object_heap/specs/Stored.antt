@@ -35,6 +35,7 @@ abbrev pub properties_of_entries : List (Name × Entry) → List Property
 properties_of_entries entries = map (λ e. property_of e.0 e.1) entries
 
 -- None is the empty table, which takes no memory
-abbrev pub entries_of : {S A : Type 0} → Option (Box (IndexMap Name Entry S) A) → List (Name × Entry)
+abbrev pub entries_of : {S A : Type 0} → Option (Box (IndexMap Name Entry S) A)
+    → List (Name × Entry)
 entries_of None = []
 entries_of (Some table) = table.value.entries

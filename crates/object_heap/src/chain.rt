@@ -1,7 +1,8 @@
 //! Walks along the prototypes of an object.
-ghost use Rattle.std.specs.Prelude.{◌≡◌, ◌<◌, length, nat_eq};
+ghost use Rattle.std.specs.Prelude.{◌≡◌, nat_eq};
 ghost use Rattle.std.specs.List.{list_any};
 ghost use Rattle.std.specs.Option.{option_copied, option_map};
+ghost use Rattle.object_heap.specs.Get as reads;
 ghost use Rattle.object_heap.specs.Get.{is_writable, met_along};
 ghost use Rattle.object_heap.specs.Laws.{IsThere, PrototypesComeBefore};
 ghost use Rattle.object_heap.specs.Objects.{chain_of, chain_on, prototype_of};
@@ -13,20 +14,31 @@ use dl_text::Units;
 
 /// The prototype of an object.
 pub(crate) fn prototype(objects: &[StoredObject], o: u64) -> Option<u32>
-    requires before { PrototypesComeBefore objects.now }
-    requires within { o < length objects.now }
+    requires { PrototypesComeBefore objects.now }
     ensures value { result ≡ prototype_of objects.now o }
     ensures there { IsThere objects.now result }
 {
-    objects[o as usize].prototype()
+    match objects.get(o as usize) {
+        Some(object) => object.prototype(),
+        None => None,
+    }
+}
+
+/// What is stored for the property of an object that is met first along its prototypes.
+pub(crate) fn met<'a>(objects: &'a [StoredObject], o: u64, name: &Units) -> Option<&'a Entry>
+    requires { PrototypesComeBefore objects.now }
+    ensures { option_map (property_of name.now) (option_copied result)
+        ≡ reads.met objects.now o name.now }
+{
+    let object = objects.get(o as usize)?;
+    match object.get(name) {
+        Some(entry) => Some(entry),
+        None => find(objects, object.prototype(), name),
+    }
 }
 
 /// What the first object that has the property stores for it, from an object on.
-pub(crate) fn find<'a>(
-    objects: &'a [StoredObject],
-    first: Option<u32>,
-    name: &Units,
-) -> Option<&'a Entry>
+fn find<'a>(objects: &'a [StoredObject], first: Option<u32>, name: &Units) -> Option<&'a Entry>
     requires before { PrototypesComeBefore objects.now }
     requires there { IsThere objects.now first }
     ensures { option_map (property_of name.now) (option_copied result)

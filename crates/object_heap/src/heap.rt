@@ -1,4 +1,4 @@
-ghost use Rattle.std.specs.Prelude.{◌≡◌, ◌<◌, length, map, slice_get, OnOk, OnErr, IfOk, Some, None};
+ghost use Rattle.std.specs.Prelude.{◌≡◌, ◌<◌, length, map, nat_lt, slice_get, OnOk, OnErr, IfOk, Some, None};
 ghost use Rattle.std.specs.Option.{option_copied, option_map};
 ghost use Rattle.object_heap.specs.Answers.{IsAnswer, IsPlainName, IsUnshared, number};
 ghost use Rattle.object_heap.specs.Answers.{slot_shown, told, visit_shown};
@@ -33,7 +33,8 @@ use std::marker::Model;
 /// How many objects there may be: 2^32 - 1.
 const MOST_OBJECTS: u64 = 0xffff_ffff;
 
-/// The objects of a run, numbered in the order in which they are made (ES3 8.6).
+/// The objects of a run, numbered in the order in which they are made (ES3 8.6). An object that is
+/// not there has no prototype and no properties: nothing is read of it, and a write does nothing.
 #[derive(Drop)]
 pub struct Heap {
     alloc: Global,
@@ -69,17 +70,25 @@ impl Heap {
         })
     }
 
-    /// The class of an object.
-    pub fn class(&self, o: ObjectId) -> Class
-        requires { o.0 < length self.now }
-        ensures { objects.class_of self.now o.0 ≡ Some result }
+    /// Whether an object is there.
+    fn is_there(&self, o: ObjectId) -> bool
+        ensures { result ≡ nat_lt o.0 (length self.now) }
     {
-        self.objects[o.0 as usize].class
+        o.0 < self.objects.len() as u64
+    }
+
+    /// The class of an object.
+    pub fn class(&self, o: ObjectId) -> Option<Class>
+        ensures { result ≡ objects.class_of self.now o.0 }
+    {
+        match self.objects.get(o.0 as usize) {
+            Some(object) => Some(object.class),
+            None => None,
+        }
     }
 
     /// The prototype of an object.
     pub fn proto(&self, o: ObjectId) -> Option<ObjectId>
-        requires { o.0 < length self.now }
         ensures { number result ≡ objects.prototype_of self.now o.0 }
     {
         match chain::prototype(self.objects.as_slice(), o.0) {
@@ -90,27 +99,22 @@ impl Heap {
 
     /// The attributes of an own property.
     pub fn own(&self, o: ObjectId, name: &Units) -> Option<Attrs>
-        requires { o.0 < length self.now }
         ensures { result ≡ objects.attributes_of self.now o.0 name.now }
     {
-        match self.objects[o.0 as usize].get(name) {
-            Some(entry) => Some(entry.attributes()),
-            None => None,
-        }
+        let entry = self.objects.get(o.0 as usize)?.get(name)?;
+        Some(entry.attributes())
     }
 
     /// What is stored for the property that is met first along the prototypes.
     fn met(&self, o: ObjectId, name: &Units) -> Option<&Entry>
-        requires { o.0 < length self.now }
         ensures { option_map (property_of name.now) (option_copied result)
             ≡ reads.met self.now o.0 name.now }
     {
-        chain::find(self.objects.as_slice(), Some(o.0 as u32), name)
+        chain::met(self.objects.as_slice(), o.0, name)
     }
 
     /// [[Get]] (ES3 8.6.2.1): where the value of a property is; None for undefined.
     pub fn get(&self, o: ObjectId, name: &Units) -> Option<Prop<'_>>
-        requires { o.0 < length self.now }
         ensures { option_map slot_shown result ≡ reads.get self.now o.0 name.now }
     {
         match self.met(o, name) {
@@ -122,7 +126,6 @@ impl Heap {
 
     /// [[HasProperty]] (ES3 8.6.2.4).
     pub fn has(&self, o: ObjectId, name: &Units) -> bool
-        requires { o.0 < length self.now }
         ensures { result ≡ reads.has_property self.now o.0 name.now }
     {
         self.met(o, name).is_some()
@@ -130,7 +133,6 @@ impl Heap {
 
     /// [[CanPut]] (ES3 8.6.2.3).
     pub fn can_put(&self, o: ObjectId, name: &Units) -> bool
-        requires { o.0 < length self.now }
         ensures { result ≡ reads.can_put self.now o.0 name.now }
     {
         match self.met(o, name) {
@@ -141,7 +143,6 @@ impl Heap {
 
     /// Whether an object stands behind another along its prototypes (ES3 15.2.4.6, 15.3.5.3).
     pub fn is_behind(&self, o: ObjectId, target: ObjectId) -> bool
-        requires { o.0 < length self.now }
         ensures { result ≡ objects.is_behind self.now o.0 target.0 }
     {
         let prototype = chain::prototype(self.objects.as_slice(), o.0);
@@ -150,11 +151,13 @@ impl Heap {
 
     /// [[Put]] (ES3 8.6.2.2, 15.4.5.1). Where it fails, and where it did nothing, the heap stays.
     pub fn put(&mut self, o: ObjectId, name: &Units, v: Value) -> Result<Put, HeapError>
-        requires { o.0 < length self.old }
         ensures answer { IsAnswer result (told (writes.put self.old o.0 name.now v)) }
         ensures ok { OnOk result (self.new ≡ writes.written self.old o.0 name.now v) }
         ensures err { OnErr result (self.new ≡ self.old) }
     {
+        if !self.is_there(o) {
+            return Ok(Put::Ignored);
+        }
         match self.objects[o.0 as usize].put_own(name, v)? {
             Written::Done => Ok(Put::Done),
             Written::ReadOnly => Ok(Put::Ignored),
@@ -182,12 +185,14 @@ impl Heap {
 
     /// Puts a property in the place of the one that has its name, or last.
     fn put_property(&mut self, o: ObjectId, name: &Units, entry: Entry) -> Result<(), AllocError>
-        requires there { o.0 < length self.old }
-        requires plain { IsPlainName (objects.class_of self.old o.0) name.now }
+        requires { IsPlainName (objects.class_of self.old o.0) name.now }
         ensures ok { OnOk result
             (self.new ≡ changes.with_property o.0 (property_of name.now entry) self.old) }
         ensures err { OnErr result (self.new ≡ self.old) }
     {
+        if !self.is_there(o) {
+            return Ok(());
+        }
         let alloc = self.alloc;
         self.objects[o.0 as usize].put_property(alloc, name, entry)
     }
@@ -200,7 +205,6 @@ impl Heap {
         v: Value,
         attrs: Attrs,
     ) -> Result<(), AllocError>
-        requires there { o.0 < length self.old }
         requires unshared { IsUnshared (objects.own_of self.old o.0 name.now) }
         requires plain { IsPlainName (objects.class_of self.old o.0) name.now }
         ensures ok { OnOk result (self.new ≡ changes.defined o.0 name.now v attrs self.old) }
@@ -212,10 +216,12 @@ impl Heap {
     /// [[Delete]] (ES3 8.6.2.5): whether the property is not there then. It stays where it is
     /// DontDelete.
     pub fn delete(&mut self, o: ObjectId, name: &Units) -> bool
-        requires { o.0 < length self.old }
         ensures what { result ≡ changes.can_delete self.old o.0 name.now }
         ensures after { self.new ≡ changes.deleted o.0 name.now self.old }
     {
+        if !self.is_there(o) {
+            return true;
+        }
         self.objects[o.0 as usize].delete(name)
     }
 
@@ -271,25 +277,32 @@ impl Heap {
 
     /// The own names that are not hidden, in the order in which they were made.
     pub fn keys(&self, o: ObjectId) -> Result<Vec<Units>, AllocError>
-        requires { o.0 < length self.now }
         ensures { IfOk result (λ names. names.items ≡ visited.keys self.now o.0) }
     {
-        visited::keys(self.alloc, &self.objects[o.0 as usize])
+        match self.objects.get(o.0 as usize) {
+            Some(object) => visited::keys(self.alloc, object),
+            None => Ok(Vec::new(self.alloc)),
+        }
     }
 
     /// What a `for-in` visits when it begins (ES3 12.6.4): names of the object and of its
     /// prototypes, but for those that an object before has.
     pub fn visits(&self, o: ObjectId) -> Result<Vec<Visit>, AllocError>
-        requires { o.0 < length self.now }
         ensures { IfOk result (λ list. map visit_shown list.items ≡ visited.visits self.now o.0) }
     {
+        if !self.is_there(o) {
+            return Ok(Vec::new(self.alloc));
+        }
         visited::visits(self.alloc, self.objects.as_slice(), o.0 as u32)
     }
 
     /// The number of one of the objects that are there at the start.
     pub fn built_in(&self, b: BuiltIn) -> ObjectId
-        ensures { result.0 ≡ built.number_of b }
+        ensures number { result.0 ≡ built.number_of b }
+        ensures there { built.number_of b < length self.now }
     {
+        // Reading the heap tells the check what holds of it.
+        let _objects = &self.objects;
         ObjectId(b as u64)
     }
 

@@ -23,6 +23,8 @@ mod start_objects;
 mod start_rows;
 mod stored;
 mod table;
+#[cfg(test)]
+mod tests;
 mod visited;
 
 pub use answer::{HeapError, Prop, Put};

@@ -35,7 +35,11 @@ impl Model for StoredObject {
 
     ghost Value = { objects.Object };
 
-    ghost view = { λ o. record { class = o.class; prototype = o.prototype; properties = o.properties } };
+    ghost view = { λ o. record {
+      class = o.class;
+      prototype = o.prototype;
+      properties = o.properties;
+    } };
 }
 
 impl StoredObject {
