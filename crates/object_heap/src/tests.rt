@@ -59,20 +59,16 @@ fn with_shared(alloc: Global) -> Result<(Heap, ObjectId), AllocError> {
 
 /// 15.5.3.1: the `prototype` of `String` is ReadOnly.
 #[test]
-fn what_a_prototype_has_is_read_and_not_written(rt: HostRuntime) -> Result<(), Fail> {
+fn what_a_prototype_has_is_not_written(rt: HostRuntime) -> Result<(), Fail> {
     let alloc = rt.alloc();
     let name = units_of(alloc, "prototype")?;
     let mut heap = start(alloc)?;
     let string = heap.built_in(BuiltIn::String);
     let o = heap.make(Class::Plain, Some(string))?;
-    assert_eq!(rt; heap.class(o), Some(Class::Plain));
-    assert_eq!(rt; heap.proto(o), Some(string));
-    assert!(rt; heap.is_behind(o, string));
-    assert!(rt; !heap.is_behind(string, o));
-    assert!(rt; heap.has(o, &name));
-    assert!(rt; !heap.can_put(o, &name));
-    assert_eq!(rt; heap.put(o, &name, whole(3))?, Put::Ignored);
-    assert_eq!(rt; heap.own(o, &name), None);
+    let put = heap.put(o, &name, whole(3))?;
+    assert_eq!(rt; put, Put::Ignored);
+    assert!(rt; heap.is_behind(o, string) && heap.proto(o) == Some(string));
+    assert!(rt; heap.has(o, &name) && !heap.can_put(o, &name) && heap.own(o, &name).is_none());
     Ok(())
 }
 
@@ -88,21 +84,11 @@ fn attributes_are_kept(rt: HostRuntime) -> Result<(), Fail> {
     };
     let (mut heap, o) = with_property(alloc, &a, all)?;
     assert_eq!(rt; heap.own(o, &a), Some(all));
-    assert_eq!(rt; heap.put(o, &a, whole(3))?, Put::Ignored);
     assert!(rt; !heap.delete(o, &a));
-    assert_eq!(rt; heap.keys(o)?.len(), 0);
+    let keys = heap.keys(o)?;
+    assert!(rt; keys.is_empty());
     assert_eq!(rt; number(heap.get(o, &a)), Some(2));
     Ok(())
-}
-
-/// The texts of names, each behind a space.
-fn joined(alloc: Global, names: &[Units]) -> Result<Vec<u16>, AllocError> {
-    let mut text = Vec::new(alloc);
-    for name in names {
-        text.push(0x20)?;
-        text.extend_from_slice(name.items())?;
-    }
-    Ok(text)
 }
 
 /// The names that are visited, each behind a star where the object itself has it, or a space.
@@ -115,51 +101,51 @@ fn visited(alloc: Global, visits: &[Visit], o: ObjectId) -> Result<Vec<u16>, All
     Ok(text)
 }
 
+/// Puts 1 in each property.
+fn put_all(heap: &mut Heap, o: ObjectId, alloc: Global, names: &[&str]) -> Result<(), HeapError> {
+    for name in names {
+        let _put = heap.put(o, &units_of(alloc, name)?, whole(1))?;
+    }
+    Ok(())
+}
+
 /// 12.6.4: a name of a prototype is visited where no object before has it.
 #[test]
 fn names_keep_their_order(rt: HostRuntime) -> Result<(), Fail> {
     let alloc = rt.alloc();
     let (mut heap, o, p) = two_plain(alloc)?;
-    let b = units_of(alloc, "b")?;
-    for name in ["a", "b", "c", "$dl_x", "d"] {
-        assert_eq!(rt; heap.put(o, &units_of(alloc, name)?, whole(1))?, Put::Done);
-    }
-    assert!(rt; heap.delete(o, &b));
-    assert_eq!(rt; heap.put(o, &b, whole(1))?, Put::Done);
-    assert_eq!(rt; heap.put(p, &units_of(alloc, "c")?, whole(1))?, Put::Done);
-    let keys = joined(alloc, heap.keys(o)?.as_slice())?;
-    assert_eq!(rt; keys.as_slice(), units_of(alloc, " a c d b")?.items());
-    let visits = visited(alloc, heap.visits(p)?.as_slice(), p)?;
-    assert_eq!(rt; visits.as_slice(), units_of(alloc, "*c a d b")?.items());
+    put_all(
+        &mut heap,
+        o,
+        alloc,
+        ["a", "b", "c", "$dl_x", "d"].as_slice(),
+    )?;
+    assert!(rt; heap.delete(o, &units_of(alloc, "b")?));
+    put_all(&mut heap, o, alloc, ["b"].as_slice())?;
+    put_all(&mut heap, p, alloc, ["c"].as_slice())?;
+    let text = visited(alloc, heap.visits(p)?.as_slice(), p)?;
+    assert_eq!(rt; text.as_slice(), units_of(alloc, "*c a d b")?.items());
     Ok(())
 }
 
-/// 15.4.5.1
+/// The length of an array behind these writes.
+fn length_after(alloc: Global, names: &[&str]) -> Result<Option<i64>, HeapError> {
+    let mut heap = start(alloc)?;
+    let o = heap.make(Class::Array, None)?;
+    put_all(&mut heap, o, alloc, names)?;
+    Ok(number(heap.get(o, &units_of(alloc, "length")?)))
+}
+
+/// 15.4, 15.4.5.1
 #[test]
 fn the_length_of_an_array_follows(rt: HostRuntime) -> Result<(), Fail> {
     let alloc = rt.alloc();
-    let length = units_of(alloc, "length")?;
-    let one = units_of(alloc, "1")?;
-    let mut heap = start(alloc)?;
-    let o = heap.make(Class::Array, None)?;
-    assert_eq!(rt; number(heap.get(o, &length)), Some(0));
-    assert_eq!(rt; heap.put(o, &one, whole(7))?, Put::Done);
-    assert_eq!(rt; number(heap.get(o, &length)), Some(2));
-    for name in ["01", "3.0", "4294967295"] {
-        assert_eq!(rt; heap.put(o, &units_of(alloc, name)?, whole(7))?, Put::Done);
-    }
-    assert_eq!(rt; number(heap.get(o, &length)), Some(2));
-    assert_eq!(rt; heap.put(o, &length, whole(1))?, Put::Done);
-    assert_eq!(rt; number(heap.get(o, &one)), None);
-    assert_eq!(rt;
-        heap.put(o, &length, Value::Null),
-        Err(HeapError::BadLength)
-    );
-    assert_eq!(rt;
-        heap.put(o, &units_of(alloc, "4294967294")?, whole(7))?,
-        Put::Done
-    );
-    assert_eq!(rt; number(heap.get(o, &length)), Some(0xffff_ffff));
+    let few = length_after(alloc, ["1", "02", "3.0", "4294967295"].as_slice())?;
+    assert_eq!(rt; few, Some(2));
+    let most = length_after(alloc, ["4294967294"].as_slice())?;
+    assert_eq!(rt; most, Some(0xffff_ffff));
+    let cut = length_after(alloc, ["7", "length", "0"].as_slice())?;
+    assert_eq!(rt; cut, Some(1));
     Ok(())
 }
 
@@ -170,10 +156,11 @@ fn an_index_shares_until_it_is_deleted(rt: HostRuntime) -> Result<(), Fail> {
     let ten = units_of(alloc, "10")?;
     let (mut heap, o) = with_shared(alloc)?;
     assert_eq!(rt; place(heap.get(o, &ten)), Some((4, 2)));
-    assert_eq!(rt; heap.put(o, &ten, whole(7))?, Put::Shared(4, 2));
+    let shared = heap.put(o, &ten, whole(7))?;
+    assert_eq!(rt; shared, Put::Shared(4, 2));
     assert!(rt; heap.delete(o, &ten));
-    assert_eq!(rt; heap.put(o, &ten, whole(7))?, Put::Done);
-    assert_eq!(rt; number(heap.get(o, &ten)), Some(7));
+    let put = heap.put(o, &ten, whole(7))?;
+    assert_eq!(rt; put, Put::Done);
     Ok(())
 }
 
@@ -197,45 +184,43 @@ fn the_start_has_its_objects(rt: HostRuntime) -> Result<(), Fail> {
     let heap = start(alloc)?;
     let global = heap.built_in(BuiltIn::Global);
     let array = heap.built_in(BuiltIn::Array);
-    let behind = heap.built_in(BuiltIn::FunctionPrototype);
-    assert_eq!(rt;
-        member(alloc, &heap, global, "Array")?,
-        Some(BuiltIn::Array)
-    );
-    assert_eq!(rt; heap.proto(array), Some(behind));
-    assert_eq!(rt;
-        member(alloc, &heap, array, "prototype")?,
-        Some(BuiltIn::ArrayPrototype)
-    );
-    assert_eq!(rt; member(alloc, &heap, array, "call")?, Some(BuiltIn::Call));
-    assert_eq!(rt;
-        number(heap.get(array, &units_of(alloc, "length")?)),
-        Some(1)
-    );
+    let found = member(alloc, &heap, global, "Array")?;
+    assert_eq!(rt; found, Some(BuiltIn::Array));
+    let prototype = member(alloc, &heap, array, "prototype")?;
+    assert_eq!(rt; prototype, Some(BuiltIn::ArrayPrototype));
+    let call = member(alloc, &heap, array, "call")?;
+    assert_eq!(rt; call, Some(BuiltIn::Call));
     Ok(())
 }
 
-/// The last 32 bits of 2^32 are those of 0, the number of Object.prototype.
+/// Whether no object has this number: there is no class, no prototype and no property.
+fn is_missing(heap: &Heap, o: ObjectId, name: &Units) -> bool {
+    heap.class(o).is_none()
+        && heap.proto(o).is_none()
+        && heap.own(o, name).is_none()
+        && heap.get(o, name).is_none()
+        && !heap.has(o, name)
+        && heap.can_put(o, name)
+        && heap.which(o).is_none()
+}
+
+/// The last 32 bits of 2^32 are those of 0, the number of Object.prototype, which has this name.
 #[test]
 fn a_number_that_no_object_has(rt: HostRuntime) -> Result<(), Fail> {
     let alloc = rt.alloc();
     let name = units_of(alloc, "toString")?;
     let mut heap = start(alloc)?;
-    let array = heap.built_in(BuiltIn::Array);
     for o in [ObjectId(65), ObjectId(1 << 32), ObjectId(u64::MAX)] {
-        assert_eq!(rt; heap.class(o), None);
-        assert_eq!(rt; heap.proto(o), None);
-        assert_eq!(rt; heap.own(o, &name), None);
-        assert!(rt; heap.get(o, &name).is_none());
-        assert!(rt; !heap.has(o, &name));
-        assert!(rt; heap.can_put(o, &name));
-        assert!(rt; !heap.is_behind(array, o));
-        assert_eq!(rt; heap.put(o, &name, whole(1))?, Put::Ignored);
-        assert!(rt; heap.delete(o, &name));
-        assert_eq!(rt; heap.keys(o)?.len(), 0);
-        assert_eq!(rt; heap.visits(o)?.len(), 0);
-        assert_eq!(rt; heap.which(o), None);
+        let put = heap.put(o, &name, whole(1))?;
+        assert_eq!(rt; put, Put::Ignored);
+        assert!(rt; heap.delete(o, &name) && is_missing(&heap, o, &name));
+        let keys = heap.keys(o)?;
+        let visits = heap.visits(o)?;
+        assert!(rt; keys.is_empty() && visits.is_empty());
     }
-    assert!(rt; heap.has(array, &name));
+    let first = heap.built_in(BuiltIn::ObjectPrototype);
+    assert!(rt;
+        heap.has(first, &name) && !heap.is_behind(heap.built_in(BuiltIn::Math), ObjectId(1 << 32))
+    );
     Ok(())
 }
