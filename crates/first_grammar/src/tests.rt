@@ -1,5 +1,6 @@
 use crate::script::{FirstBody, FirstItem};
 use crate::{parse_first, read_first_cluster, read_first_script};
+use dl_text::Listed;
 use js_tree::{Expr, Stmt};
 use std::alloc::{AllocError, Global};
 use std::test::Fail;
@@ -33,7 +34,7 @@ fn returned(statement: &Stmt) -> Option<u32> {
 /// The entry whose stub a declaration is.
 fn entry_of(statement: &Stmt) -> Option<u32> {
     match statement {
-        Stmt::Declare(function) => returned(function.body.get(0)?),
+        Stmt::Declare(function) => returned(function.body.items().first()?),
         _ => None,
     }
 }
@@ -45,10 +46,10 @@ fn is_script(alloc: Global, text: &str) -> Result<bool, AllocError> {
 #[test]
 fn a_script_has_its_tree(rt: HostRuntime) -> Result<(), Fail> {
     let tree = parse_first(rt.alloc(), SCRIPT)?.ok_or("no script")?;
-    assert_eq!(rt; tree.body.len(), 5);
-    let first = tree.body.get(0).ok_or("no first item")?;
+    assert_eq!(rt; tree.body.items().len(), 5);
+    let first = tree.body.items().first().ok_or("no first item")?;
     assert_eq!(rt; entry_of(first), None);
-    let second = tree.body.get(1).ok_or("no second item")?;
+    let second = tree.body.items().get(1).ok_or("no second item")?;
     assert_eq!(rt; entry_of(second), Some(2));
     assert!(rt; is_script(rt.alloc(), "f();\n")?);
     assert!(rt; is_script(rt.alloc(), "\n")?);

@@ -4,8 +4,7 @@ ghost use Rattle.first_grammar.specs.First as first;
 
 use crate::script::{FirstBody, FirstFunction, FirstItem, FirstScript, FirstStatement};
 use dl_text::{Names, Units};
-use js_tree::{Expr, Exprs, Func, Role, Script, Stmt, Stmts};
-use sqlite_items::{Boxed, Items};
+use js_tree::{Boxed, Expr, Exprs, Func, Role, Script, Stmt, Stmts};
 use std::alloc::{AllocError, Global};
 
 fn units(alloc: Global, bytes: &[u8]) -> Result<Units, AllocError>
@@ -40,7 +39,7 @@ fn statement(alloc: Global, statement: &FirstStatement) -> Result<Stmt, AllocErr
     match statement {
         FirstStatement::Call(letter) => {
             let callee = Boxed::new(alloc, Expr::Name(letter_name(alloc, *letter)?))?;
-            Ok(Stmt::Do(Expr::Call(callee, Items::new(alloc))))
+            Ok(Stmt::Do(Expr::Call(callee, Exprs::new(alloc))))
         }
         FirstStatement::Out(characters) => {
             let callee = Boxed::new(alloc, host_out(alloc)?)?;

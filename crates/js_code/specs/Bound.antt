@@ -7,6 +7,7 @@ use Rattle.js_tree.specs.Plain as view
 use Rattle.js_calls.specs.Declared.{functions_of, vars_in_all}
 
 -- these are the functions that statements declare and their variables, in the order of the text
-pub record Lists (functions : List Func) (variables : List Name) (statements : List Stmt) : Type 0 where
+pub record Lists (functions : List Func) (variables : List Name) (statements : List Stmt)
+    : Type 0 where
   pub all_functions : map view.func functions ≡ functions_of (view.body statements)
   pub all_variables : variables ≡ vars_in_all (view.body statements)

@@ -1,6 +1,7 @@
 -- How many steps an expression without effects takes, and 0 of any other; and what a node tells of
 -- it.
-use Rattle.std.specs.Prelude.{ℕ, zero, suc, ◌≡◌, ◌+◌, ◌⊎◌, nat_le, if◌then◌else◌}
+use Rattle.std.specs.Prelude.{ℕ, zero, suc, ◌≡◌, ◌+◌, ◌⊎◌, nat_le}
+use Rattle.std.specs.Prelude.{if◌then◌else◌}
 use Rattle.js_tree.specs.declared.tree.BinaryOp.{BinaryOp}
 use Rattle.js_tree.specs.declared.tree.BinaryOp.TheVariants as binary
 use Rattle.js_tree.specs.declared.tree.PrefixOp.{PrefixOp}

@@ -1,5 +1,6 @@
 -- Each tree of code has a greater number than what it holds.
-use Rattle.std.specs.Prelude.{ℕ, ◌+◌, ◌≤◌, ◌≡◌, max, List, [], ◌∷◌, Option, Some, None, map}
+use Rattle.std.specs.Prelude.{ℕ, ◌+◌, ◌≤◌, ◌≡◌, max, List, [], ◌∷◌, map}
+use Rattle.std.specs.Prelude.{Option, Some, None}
 use Rattle.std.proofs.Common.{arith, ap, sym, ◌∙◌}
 use denote.Param.Weighed.{most}
 use Rattle.js_tree.specs.declared.tree.Expr.{Expr}
@@ -45,7 +46,8 @@ stmts_fall [] = omega arith
 stmts_fall (s ∷ ss) = omega (arith, stmts_fall ss)
 
 pub elements_fall
-    : (weight : Option Expr → ℕ) → weight None ≡ 0 → ((e : Expr) → weight (Some e) ≡ max (expr_size e + 1) 0)
+    : (weight : Option Expr → ℕ) → weight None ≡ 0
+    → ((e : Expr) → weight (Some e) ≡ max (expr_size e + 1) 0)
     → (es : List (Option Expr)) → max (most weight es) 0 ≤ elements_size es
 elements_fall weight none some [] = omega arith
 elements_fall weight none some (None ∷ es) =
@@ -56,7 +58,11 @@ elements_fall weight none some (Some e ∷ es) =
 pub pairs_fall : (ps : List PairCode) → most deep-PairCode ps ≤ pairs_size (map pair_of ps)
 pairs_fall [] = omega arith
 pairs_fall (p ∷ ps) =
-    omega (arith, pairs_fall ps, ap (λ (q : view.PairPart). expr_height by_code q.value) (pair_is p))
+    omega (
+      arith,
+      pairs_fall ps,
+      ap (λ (q : view.PairPart). expr_height by_code q.value) (pair_is p),
+    )
 
 var_part
     : (name : Name) (value : Option Expr)
@@ -69,12 +75,18 @@ pub var_items_fall
     : (vs : List VarCode) → most deep-VarCode vs ≤ var_items_size (map var_item_of vs)
 var_items_fall [] = omega arith
 var_items_fall (v ∷ vs) =
-    omega (arith, var_items_fall vs, var_part v.name v.value, ap (λ (p : view.VarPart). maybe_expr_height by_code p.value) (var_item_is v))
+    omega (
+      arith,
+      var_items_fall vs,
+      var_part v.name v.value,
+      ap (λ (p : view.VarPart). maybe_expr_height by_code p.value) (var_item_is v),
+    )
 
 case_part
     : (test : Option Expr) (body : List Stmt)
     → deep-CaseCode (record { test = test; body = body })
-    ≤ max (maybe_expr_height by_code (parts.maybe_expr test)) (stmts_height by_code (view.body body))
+    ≤ max
+    (maybe_expr_height by_code (parts.maybe_expr test)) (stmts_height by_code (view.body body))
     + 2
 case_part None body = omega arith
 case_part (Some e) body = omega arith
@@ -168,7 +180,8 @@ abbrev highest : List plain.Func → ℕ
 highest [] = 0
 highest (f ∷ fs) = max (func_height by_code f) (highest fs)
 
-functions_fall : (fs : List Func) → most (λ f. func_size f + 1) fs ≤ highest (map view.func fs) + 1
+functions_fall
+    : (fs : List Func) → most (λ f. func_size f + 1) fs ≤ highest (map view.func fs) + 1
 functions_fall [] = omega arith
 functions_fall (f ∷ fs) = omega (arith, functions_fall fs)
 
@@ -195,6 +208,8 @@ declared_fall (plain.MoreStmts (plain.Try block caught last) ss) = omega (arith,
 declared_fall (plain.MoreStmts (plain.Declare f) ss) = omega (arith, declared_fall ss)
 declared_fall (plain.MoreStmts (plain.Used n) ss) = omega (arith, declared_fall ss)
 
-pub body_falls : (ss : List Stmt) (fs : List Func) (names : List Name) → Lists fs names ss → max (stmts_size ss + 1) (most (λ f. func_size f + 1) fs) ≤ body_size ss
+pub body_falls
+    : (ss : List Stmt) (fs : List Func) (names : List Name) → Lists fs names ss
+    → max (stmts_size ss + 1) (most (λ f. func_size f + 1) fs) ≤ body_size ss
 body_falls ss fs names h =
     omega (arith, functions_fall fs, ap highest h.all_functions, declared_fall (view.body ss))

@@ -5,10 +5,12 @@ use Rattle.std.proofs.Common.{ap, ◌∙◌}
 use Rattle.js_tree.specs.declared.tree.Expr.TheOpen.{Expr-F, ForInit-F, ForTarget-F, Stmt-F}
 use Rattle.js_tree.specs.declared.tree.Expr.{Expr}
 use Rattle.js_tree.specs.declared.tree.Stmt.{Stmt}
-use Rattle.js_tree.specs.declared.tree.Expr.TheViews.{roll-Expr, roll-Stmt, roll-Func, roll-VarItem, roll-Case}
+use Rattle.js_tree.specs.declared.tree.Expr.TheViews.{roll-Expr, roll-Stmt, roll-Func}
+use Rattle.js_tree.specs.declared.tree.Expr.TheViews.{roll-VarItem, roll-Case}
 use Rattle.js_tree.specs.declared.tree.Expr.TheFolds.{fold-roll-Expr, fold-roll-Stmt}
 use Rattle.js_tree.specs.declared.tree.Expr.TheFolds.{fold-roll-Func, fold-roll-ForInit}
-use Rattle.js_tree.specs.declared.tree.Expr.TheFolds.{fold-roll-ForTarget, fold-roll-VarItem, fold-roll-Pair, fold-roll-Case}
+use Rattle.js_tree.specs.declared.tree.Expr.TheFolds.{fold-roll-ForTarget, fold-roll-VarItem}
+use Rattle.js_tree.specs.declared.tree.Expr.TheFolds.{fold-roll-Pair, fold-roll-Case}
 use Rattle.js_tree.specs.declared.tree.Stmt.TheVariants.{rolls-For, rolls-Try}
 use Rattle.js_tree.specs.declared.tree.Expr.TheVariants.{rolls-Array}
 use Rattle.js_tree.proofs.PlainNodes.{array_node, for_node, try_node}
@@ -70,7 +72,8 @@ item_at name (Some e) = rw fold-roll-VarItem
 
 pub var_item_is
     : (v : VarCode)
-    → parts.var_item (var_item_of v) ≡ record { name = v.name; value = parts.maybe_expr v.value }
+    → parts.var_item (var_item_of v)
+    ≡ record { name = v.name; value = parts.maybe_expr v.value }
 var_item_is v = item_at v.name v.value
 
 pub pair_is
@@ -87,7 +90,8 @@ clause_at (Some e) body = rw fold-roll-Case
 
 pub case_is
     : (c : CaseCode)
-    → parts.case (case_of c) ≡ record { test = parts.maybe_expr c.test; body = view.body c.body }
+    → parts.case (case_of c)
+    ≡ record { test = parts.maybe_expr c.test; body = view.body c.body }
 case_is c = clause_at c.test c.body
 
 pub for_target_is : (n : ForTargetNode) → parts.for_target (for_target_of n) ≡ for_target_tree n
@@ -105,9 +109,14 @@ stmt_node_is (stmt.If test then (Some other)) = rw fold-roll-Stmt
 stmt_node_is (stmt.DoWhile body test) = rw fold-roll-Stmt
 stmt_node_is (stmt.While test body) = rw fold-roll-Stmt
 stmt_node_is (stmt.For init test update body) =
-    ap view.stmt (rolls-For (for_init_of init) test update body) ∙ (for_node (for_init_of init) test update body
-    ∙ ap (λ f. plain.For f (parts.maybe_expr test) (parts.maybe_expr update) (view.stmt body)) (for_init_is init))
-stmt_node_is (stmt.ForIn to object body) = rw fold-roll-Stmt (ap (λ t. plain.ForIn t (view.expr object) (view.stmt body)) (for_target_is to))
+    ap view.stmt (rolls-For (for_init_of init) test update body)
+    ∙ (for_node (for_init_of init) test update body
+    ∙ ap
+    (λ f. plain.For f (parts.maybe_expr test) (parts.maybe_expr update) (view.stmt body))
+    (for_init_is init))
+stmt_node_is (stmt.ForIn to object body) =
+    rw fold-roll-Stmt
+    (ap (λ t. plain.ForIn t (view.expr object) (view.stmt body)) (for_target_is to))
 stmt_node_is (stmt.Continue label) = rw fold-roll-Stmt
 stmt_node_is (stmt.Break label) = rw fold-roll-Stmt
 stmt_node_is (stmt.Return None) = rw fold-roll-Stmt

@@ -32,7 +32,8 @@ cond_parts (plain.Binary op left right) = None
 cond_parts (plain.And left right) = None
 cond_parts (plain.Or left right) = None
 cond_parts (plain.Comma left right) = None
-cond_parts (plain.Cond test first second) = Some (record { test = test; first = first; second = second })
+cond_parts (plain.Cond test first second) =
+    Some (record { test = test; first = first; second = second })
 cond_parts (plain.Assign op target value) = None
 cond_parts (plain.Late k) = None
 
@@ -48,7 +49,8 @@ if_parts (plain.Block body) = None
 if_parts (plain.Variables items) = None
 if_parts plain.Empty = None
 if_parts (plain.Do e) = None
-if_parts (plain.If test first second) = Some (record { test = test; first = first; second = second })
+if_parts (plain.If test first second) =
+    Some (record { test = test; first = first; second = second })
 if_parts (plain.DoWhile body test) = None
 if_parts (plain.While test body) = None
 if_parts (plain.For init test update body) = None
@@ -76,9 +78,12 @@ loop_parts (plain.Variables items) = None
 loop_parts plain.Empty = None
 loop_parts (plain.Do e) = None
 loop_parts (plain.If test first second) = None
-loop_parts (plain.DoWhile body test) = Some (record { test = AnExpr test; update = NoExpr; body = body })
-loop_parts (plain.While test body) = Some (record { test = AnExpr test; update = NoExpr; body = body })
-loop_parts (plain.For init test update body) = Some (record { test = test; update = update; body = body })
+loop_parts (plain.DoWhile body test) =
+    Some (record { test = AnExpr test; update = NoExpr; body = body })
+loop_parts (plain.While test body) =
+    Some (record { test = AnExpr test; update = NoExpr; body = body })
+loop_parts (plain.For init test update body) =
+    Some (record { test = test; update = update; body = body })
 loop_parts (plain.ForIn target object body) = None
 loop_parts (plain.Continue label) = None
 loop_parts (plain.Break label) = None
@@ -106,7 +111,8 @@ for_in_parts (plain.If test first second) = None
 for_in_parts (plain.DoWhile body test) = None
 for_in_parts (plain.While test body) = None
 for_in_parts (plain.For init test update body) = None
-for_in_parts (plain.ForIn target object body) = Some (record { target = target; object = object; body = body })
+for_in_parts (plain.ForIn target object body) =
+    Some (record { target = target; object = object; body = body })
 for_in_parts (plain.Continue label) = None
 for_in_parts (plain.Break label) = None
 for_in_parts (plain.Return value) = None
@@ -140,7 +146,8 @@ try_parts (plain.Return value) = None
 try_parts (plain.Switch value cases) = None
 try_parts (plain.Label name body) = None
 try_parts (plain.Throw e) = None
-try_parts (plain.Try block handler last) = Some (record { block = block; handler = handler; last = last })
+try_parts (plain.Try block handler last) =
+    Some (record { block = block; handler = handler; last = last })
 try_parts (plain.Declare f) = None
 try_parts (plain.Used n) = None
 

@@ -1,4 +1,5 @@
--- One level of the tree that a node stands for, whose parts are trees, and the plain tree of a node.
+-- One level of the tree that a node stands for, whose parts are trees, and the plain tree of a
+-- node.
 use Rattle.std.specs.Prelude.{List, Option}
 use Rattle.js_tree.specs.declared.tree.Expr.{Expr}
 use Rattle.js_tree.specs.declared.tree.Stmt.{Stmt}

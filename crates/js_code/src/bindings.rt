@@ -9,8 +9,7 @@ ghost use Rattle.js_calls.specs.Declared.{functions_of, vars_in, vars_in_all};
 use crate::funcs::FuncCode;
 use crate::stmts::StmtCodes;
 use dl_text::{Listed, Names, TryCopy, Units};
-use js_tree::{Case, Cases, ForInit, ForTarget, Stmt, Stmts, VarItem, VarItems};
-use sqlite_items::Boxed;
+use js_tree::{Boxed, Case, Cases, ForInit, ForTarget, Stmt, Stmts, VarItem, VarItems};
 use std::alloc::{AllocError, Global};
 
 /// The functions that stand directly in a list of statements.

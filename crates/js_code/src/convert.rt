@@ -16,10 +16,9 @@ use crate::stmts::{
 };
 use dl_text::{Listed, TryCopy, Units};
 use js_tree::{
-    Case, Cases, Elements, Expr, Exprs, ForInit, ForTarget, Func, Pair, Pairs, Script, Stmt, Stmts,
-    VarItem, VarItems,
+    Boxed, Case, Cases, Elements, Expr, Exprs, ForInit, ForTarget, Func, Pair, Pairs, Script, Stmt,
+    Stmts, VarItem, VarItems,
 };
-use sqlite_items::Boxed;
 use std::alloc::{AllocError, Global};
 
 impl ExprCode {
@@ -95,7 +94,7 @@ fn code_of_body(alloc: Global, body: &Stmts) -> Result<BodyCode, AllocError>
 fn code_of_stmts(alloc: Global, stmts: &Stmts) -> Result<StmtCodes, AllocError>
     ensures { IfOk result (λ code. code ≡ stmts.now) }
 {
-    let mut items = Vec::with_capacity(alloc, stmts.len())?;
+    let mut items = Vec::with_capacity(alloc, stmts.items().len())?;
     for stmt in stmts.items() {
         items.push(code_of_stmt(alloc, stmt)?)?;
     }
@@ -195,7 +194,7 @@ fn code_of_maybe(alloc: Global, expr: &Option<Expr>) -> Result<Option<ExprCode>,
 fn code_of_exprs(alloc: Global, exprs: &Exprs) -> Result<ExprCodes, AllocError>
     ensures { IfOk result (λ code. code ≡ exprs.now) }
 {
-    let mut items = Vec::with_capacity(alloc, exprs.len())?;
+    let mut items = Vec::with_capacity(alloc, exprs.items().len())?;
     for expr in exprs.items() {
         items.push(code_of_expr(alloc, expr)?)?;
     }
@@ -206,7 +205,7 @@ fn code_of_exprs(alloc: Global, exprs: &Exprs) -> Result<ExprCodes, AllocError>
 fn code_of_elements(alloc: Global, elements: &Elements) -> Result<ElementCodes, AllocError>
     ensures { IfOk result (λ code. code ≡ elements.now) }
 {
-    let mut items = Vec::with_capacity(alloc, elements.len())?;
+    let mut items = Vec::with_capacity(alloc, elements.items().len())?;
     for element in elements.items() {
         // The match stands here, since a call on `element` has no measure that the check finds.
         let element = match element {
@@ -232,7 +231,7 @@ fn code_of_pair(alloc: Global, pair: &Pair) -> Result<PairCode, AllocError>
 fn code_of_pairs(alloc: Global, pairs: &Pairs) -> Result<PairCodes, AllocError>
     ensures { IfOk result (λ code. code ≡ pairs.now) }
 {
-    let mut items = Vec::with_capacity(alloc, pairs.len())?;
+    let mut items = Vec::with_capacity(alloc, pairs.items().len())?;
     for pair in pairs.items() {
         items.push(code_of_pair(alloc, pair)?)?;
     }
@@ -365,7 +364,7 @@ fn code_of_var_item(alloc: Global, item: &VarItem) -> Result<VarCode, AllocError
 fn code_of_var_items(alloc: Global, var_items: &VarItems) -> Result<VarCodes, AllocError>
     ensures { IfOk result (λ code. code ≡ var_items.now) }
 {
-    let mut items = Vec::with_capacity(alloc, var_items.len())?;
+    let mut items = Vec::with_capacity(alloc, var_items.items().len())?;
     for item in var_items.items() {
         items.push(code_of_var_item(alloc, item)?)?;
     }
@@ -386,7 +385,7 @@ fn code_of_case(alloc: Global, case: &Case) -> Result<CaseCode, AllocError>
 fn code_of_cases(alloc: Global, cases: &Cases) -> Result<CaseCodes, AllocError>
     ensures { IfOk result (λ code. code ≡ cases.now) }
 {
-    let mut items = Vec::with_capacity(alloc, cases.len())?;
+    let mut items = Vec::with_capacity(alloc, cases.items().len())?;
     for case in cases.items() {
         items.push(code_of_case(alloc, case)?)?;
     }

@@ -91,7 +91,8 @@ impl Model for BodyCode {
     ghost use Rattle.std.proofs.Common.{arith};
     ghost use Rattle.js_code.specs.Falls.{body_falls};
 
-    ghost size_decreases = { λ a h. omega (arith, body_falls a.statements a.functions.items a.variables h) };
+    ghost size_decreases = { λ a h.
+        omega (arith, body_falls a.statements a.functions.items a.variables h) };
 }
 
 impl FuncCode {

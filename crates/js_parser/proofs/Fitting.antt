@@ -1,19 +1,19 @@
 -- When trees are low enough.
-use Rattle.std.proofs.Common.{rules, ◌≡◌, ℕ, suc, max, true, nat_le, List, [], ◌∷◌, Option, Some, None, map, refl, ap, sym, ◌∙◌, arith}
+use Rattle.std.proofs.Common.{rules, ◌≡◌, ℕ, suc, max, true, nat_le, List, Option, Some, None, ap, sym, ◌∙◌, arith}
 use Rattle.std.proofs.lemmas.Bool.Decides.{nat_tests}
-use Rattle.std.specs.Option.{option_map}
 use Rattle.js_tree.specs.declared.tree.Expr.{Expr}
 use Rattle.js_tree.specs.declared.tree.Stmt.{Stmt}
 use Rattle.js_tree.specs.declared.tree.ForInit.{ForInit}
 use Rattle.js_tree.specs.declared.tree.Expr.TheVariants as e
 use Rattle.js_tree.specs.declared.tree.Stmt.TheVariants as s
-use Rattle.js_tree.specs.declared.tree.Expr.TheVariants.{rolls-Array}
-use Rattle.js_tree.specs.declared.tree.Stmt.TheVariants.{rolls-If, rolls-For}
-use Rattle.js_tree.specs.declared.tree.Expr.TheFolds.{fold-roll-Expr, fold-roll-Stmt}
+use Rattle.js_tree.specs.declared.tree.Stmt.TheVariants.{rolls-If}
+use Rattle.js_tree.specs.declared.tree.Expr.TheFolds.{fold-roll-Stmt}
 use Rattle.js_tree.specs.Tree as plain
 use Rattle.js_tree.specs.Plain as view
+use Rattle.js_tree.specs.Parts as parts
 use Rattle.js_tree.specs.Depth.{by_nodes}
 use Rattle.js_tree.specs.Heights as heights
+use Rattle.js_tree.proofs.PlainNodes.{array_node, for_node}
 use Rattle.js_parser.specs.Fitting as spec
 
 fits_inside : (a most inside : ℕ) → most ≡ suc inside → nat_le (suc a) most ≡ nat_le a inside
@@ -27,26 +27,14 @@ fits_four a b c d most inside h k l m = grind (arith, nat_tests)
 
 -- ---- array literals, whose elements are none or expressions
 
-same_elements : (f : Option Expr → Option plain.Expr) (xs : List (Option Expr)) → f None ≡ None → ((x : Expr) → f (Some x) ≡ Some (view.expr x)) → plain.Array (view.elements (map f xs)) ≡ plain.Array (view.elements (map (option_map view.expr) xs))
-same_elements f xs none some = ap plain.Array (alike xs)
-  where
-    alike : (xs : List (Option Expr)) → view.elements (map f xs) ≡ view.elements (map (option_map view.expr) xs)
-    alike [] = refl
-    alike (None ∷ xs) = rw none (ap (plain.MoreElements plain.NoExpr) (alike xs))
-    alike (Some x ∷ xs) = rw (some x) (ap (plain.MoreElements (plain.AnExpr (view.expr x))) (alike xs))
-
-array_level : (es : List (Option Expr)) → view.expr (e.Array es) ≡ plain.Array (view.elements (map (option_map view.expr) es))
-array_level es =
-    ap view.expr (sym (rolls-Array es)) ∙ rw fold-roll-Expr (same_elements _ es refl (λ x. refl))
-
 pub array_fits : (es : List (Option Expr)) (most inside : ℕ) → most ≡ suc inside → nat_le (heights.expr_height by_nodes (view.expr (e.Array es))) most ≡ spec.elements_fit es inside
 array_fits es most inside h =
-    ap (λ tree. nat_le (heights.expr_height by_nodes tree) most) (array_level es)
-    ∙ fits_inside (heights.elements_height by_nodes (view.elements (map (option_map view.expr) es))) most inside h
+    ap (λ tree. nat_le (heights.expr_height by_nodes tree) most) (array_node es)
+    ∙ fits_inside (heights.elements_height by_nodes (parts.elements es)) most inside h
 
 -- ---- an `if`, with an `else` or none
 
-if_level : (test : Expr) (then : Stmt) (other : Option Stmt) → view.stmt (s.If test then other) ≡ plain.If (view.expr test) (view.stmt then) (view.maybe_stmt (option_map view.stmt other))
+if_level : (test : Expr) (then : Stmt) (other : Option Stmt) → view.stmt (s.If test then other) ≡ plain.If (view.expr test) (view.stmt then) (parts.maybe_stmt other)
 if_level test then None =
     ap view.stmt (sym (rolls-If test then None)) ∙ search (rules, fold-roll-Stmt)
 if_level test then (Some x) =
@@ -57,23 +45,13 @@ pub if_fits : (test : Expr) (then : Stmt) (other : Option Stmt) (most inside : �
     → nat_le (heights.stmt_height by_nodes (view.stmt (s.If test then other))) most ≡ spec.maybe_stmt_fits other inside
 if_fits test then other most inside h k l =
     ap (λ tree. nat_le (heights.stmt_height by_nodes tree) most) (if_level test then other)
-    ∙ fits_three (heights.expr_height by_nodes (view.expr test)) (heights.stmt_height by_nodes (view.stmt then)) (heights.maybe_stmt_height by_nodes (view.maybe_stmt (option_map view.stmt other))) most inside h k l
+    ∙ fits_three (heights.expr_height by_nodes (view.expr test)) (heights.stmt_height by_nodes (view.stmt then)) (heights.maybe_stmt_height by_nodes (parts.maybe_stmt other)) most inside h k l
 
 -- ---- a `for`, each part of whose header may be left out
-
-for_level : (first : ForInit) (test next : Option Expr) (body : Stmt) → view.stmt (s.For first test next body) ≡ plain.For (spec.for_init first) (view.maybe_expr (option_map view.expr test)) (view.maybe_expr (option_map view.expr next)) (view.stmt body)
-for_level first None None body =
-    ap view.stmt (sym (rolls-For first None None body)) ∙ search (rules, fold-roll-Stmt)
-for_level first None (Some y) body =
-    ap view.stmt (sym (rolls-For first None (Some y) body)) ∙ search (rules, fold-roll-Stmt)
-for_level first (Some x) None body =
-    ap view.stmt (sym (rolls-For first (Some x) None body)) ∙ search (rules, fold-roll-Stmt)
-for_level first (Some x) (Some y) body =
-    ap view.stmt (sym (rolls-For first (Some x) (Some y) body)) ∙ search (rules, fold-roll-Stmt)
 
 pub for_fits : (first : ForInit) (test next : Option Expr) (body : Stmt) (most inside : ℕ) → most ≡ suc inside
     → true ≡ spec.for_init_fits first inside → true ≡ spec.maybe_expr_fits test inside → true ≡ spec.maybe_expr_fits next inside
     → nat_le (heights.stmt_height by_nodes (view.stmt (s.For first test next body))) most ≡ nat_le (heights.stmt_height by_nodes (view.stmt body)) inside
 for_fits first test next body most inside h k l m =
-    ap (λ tree. nat_le (heights.stmt_height by_nodes tree) most) (for_level first test next body)
-    ∙ fits_four (heights.for_init_height by_nodes (spec.for_init first)) (heights.maybe_expr_height by_nodes (view.maybe_expr (option_map view.expr test))) (heights.maybe_expr_height by_nodes (view.maybe_expr (option_map view.expr next))) (heights.stmt_height by_nodes (view.stmt body)) most inside h k l m
+    ap (λ tree. nat_le (heights.stmt_height by_nodes tree) most) (for_node first test next body)
+    ∙ fits_four (heights.for_init_height by_nodes (parts.for_init first)) (heights.maybe_expr_height by_nodes (parts.maybe_expr test)) (heights.maybe_expr_height by_nodes (parts.maybe_expr next)) (heights.stmt_height by_nodes (view.stmt body)) most inside h k l m

@@ -8,8 +8,7 @@ ghost use Rattle.js_tree.specs.Tree as tree;
 
 use crate::operators::Operator;
 use crate::stop::Stop;
-use js_tree::{BinaryOp, Expr, Func, PostfixOp, PrefixOp, Stmt};
-use sqlite_items::Boxed;
+use js_tree::{BinaryOp, Boxed, Expr, Func, PostfixOp, PrefixOp, Stmt};
 use std::alloc::Global;
 
 /// A conditional (ES3 11.12).

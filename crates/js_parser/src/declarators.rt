@@ -16,8 +16,7 @@ use crate::stop::Stop;
 use crate::tokens::Tokens;
 use crate::{names, tree_lists};
 use dl_text::Units;
-use js_tree::{Expr, Func, VarItem, VarItems};
-use sqlite_items::Boxed;
+use js_tree::{Boxed, Expr, Func, VarItem, VarItems};
 use std::alloc::Global;
 
 /// Passes a name that may be bound, and gives it.

@@ -19,8 +19,7 @@ use crate::statements::Statements;
 use crate::stop::Stop;
 use crate::tokens::Tokens;
 use dl_text::Units;
-use js_tree::{Expr, Func, Stmt};
-use sqlite_items::Boxed;
+use js_tree::{Boxed, Expr, Func, Stmt};
 use std::alloc::Global;
 
 /// A part of an expression (ES3 section 11).

@@ -8,10 +8,9 @@ ghost use Rattle.js_tree.specs.Heights as heights;
 
 use dl_text::{Listed, Units};
 use js_tree::{
-    Case, Cases, Elements, Expr, Exprs, ForInit, ForTarget, Func, Pair, Pairs, Stmt, Stmts,
+    Boxed, Case, Cases, Elements, Expr, Exprs, ForInit, ForTarget, Func, Pair, Pairs, Stmt, Stmts,
     VarItem, VarItems,
 };
-use sqlite_items::Boxed;
 
 /// Whether the tree of an expression has at most this height.
 #[cycle(fits)]

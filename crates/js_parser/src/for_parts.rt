@@ -1,7 +1,6 @@
 //! The parts of `for` statements (ES3 12.6.3 and 12.6.4).
 
-use js_tree::{Expr, Stmt};
-use sqlite_items::Boxed;
+use js_tree::{Boxed, Expr, Stmt};
 
 /// What stands behind the first part of a `for` header.
 #[derive(Drop)]

@@ -20,8 +20,7 @@ use crate::stop::Stop;
 use crate::tokens::Tokens;
 use crate::{names, tree_lists};
 use dl_text::{Listed, Names, Units};
-use js_tree::{Expr, Func, Stmt, Stmts};
-use sqlite_items::Boxed;
+use js_tree::{Boxed, Expr, Func, Stmt, Stmts};
 use std::alloc::Global;
 
 /// One more formal, behind these.

@@ -19,8 +19,7 @@ use crate::statements::Statements;
 use crate::stop::Stop;
 use crate::tokens::Tokens;
 use dl_text::{Listed, Names, Units};
-use js_tree::{Expr, Func, Stmt};
-use sqlite_items::Boxed;
+use js_tree::{Boxed, Expr, Func, Stmt};
 use std::alloc::Global;
 
 /// Whether a jump to this label may stand where there are these (ES3 12.7 and 12.8).

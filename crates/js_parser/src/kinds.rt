@@ -22,8 +22,7 @@ use crate::statements::Statements;
 use crate::stop::Stop;
 use crate::tokens::Tokens;
 use dl_text::Units;
-use js_tree::{Cases, Expr, Func, Stmt, Stmts, VarItems};
-use sqlite_items::Boxed;
+use js_tree::{Boxed, Cases, Expr, Func, Stmt, Stmts, VarItems};
 use std::alloc::Global;
 
 impl<

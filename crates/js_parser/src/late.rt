@@ -15,8 +15,7 @@ use crate::rooms::Room;
 use crate::stop::Stop;
 use crate::tokens::Tokens;
 use js_lexer::{Token, TokenKind};
-use js_tree::{Expr, LAST_FUNCTION_NUMBER};
-use sqlite_items::Boxed;
+use js_tree::{Boxed, Expr, LAST_FUNCTION_NUMBER};
 use std::alloc::Global;
 
 /// A late function, whose `eval` is the next token.

@@ -19,8 +19,7 @@ use crate::stop::Stop;
 use crate::tokens::Tokens;
 use crate::{names, nodes};
 use dl_text::Units;
-use js_tree::{Expr, Exprs, Func};
-use sqlite_items::Boxed;
+use js_tree::{Boxed, Expr, Exprs, Func};
 use std::alloc::Global;
 
 impl<

@@ -21,8 +21,7 @@ use crate::stop::Stop;
 use crate::tokens::Tokens;
 use crate::tree_lists;
 use dl_text::Units;
-use js_tree::{Cases, Expr, Func, Stmt, Stmts};
-use sqlite_items::Boxed;
+use js_tree::{Boxed, Cases, Expr, Func, Stmt, Stmts};
 use std::alloc::Global;
 
 /// Whether a clause with a test may come, or one without, where `default` may come.

@@ -24,8 +24,7 @@ use crate::stop::Stop;
 use crate::targets::is_target;
 use crate::tokens::Tokens;
 use dl_text::Units;
-use js_tree::{Expr, Func, Stmt, VarItem};
-use sqlite_items::Boxed;
+use js_tree::{Boxed, Expr, Func, Stmt, VarItem};
 use std::alloc::Global;
 
 impl<

@@ -12,8 +12,7 @@ use crate::names;
 use crate::stop::Stop;
 use dl_text::Units;
 use js_lexer::{TokenKind, Word};
-use js_tree::{Elements, Expr, Exprs, Func, Pair, Pairs};
-use sqlite_items::Boxed;
+use js_tree::{Boxed, Elements, Expr, Exprs, Func, Pair, Pairs};
 use std::alloc::Global;
 
 /// The expression that a token is by itself, if it is one (ES3 7.8, 11.1.1).

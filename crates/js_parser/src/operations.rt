@@ -19,8 +19,7 @@ use crate::stop::Stop;
 use crate::targets::is_target;
 use crate::tokens::Tokens;
 use dl_text::Units;
-use js_tree::{BinaryOp, Expr, Func, PrefixOp};
-use sqlite_items::Boxed;
+use js_tree::{BinaryOp, Boxed, Expr, Func, PrefixOp};
 use std::alloc::Global;
 
 /// The level of the operator that binds least between two operands, `||`.

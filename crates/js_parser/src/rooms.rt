@@ -7,8 +7,7 @@ ghost use Rattle.js_parser.specs.View as view;
 
 use crate::fits::expr_fits;
 use crate::form::Limits;
-use js_tree::Expr;
-use sqlite_items::Boxed;
+use js_tree::{Boxed, Expr};
 
 /// How deep a tree may be, and how many functions may stand in one another in it.
 #[derive(Clone, Copy)]

@@ -15,8 +15,7 @@ use crate::rooms::Room;
 use crate::stop::Stop;
 use crate::tokens::Tokens;
 use dl_text::Units;
-use js_tree::{Expr, Func};
-use sqlite_items::Boxed;
+use js_tree::{Boxed, Expr, Func};
 use std::alloc::Global;
 
 /// What the rules of expressions stand on.

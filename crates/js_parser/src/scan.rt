@@ -18,8 +18,7 @@ use crate::stop::Stop;
 use crate::tokens::Tokens;
 use crate::tree_lists;
 use js_lexer::Token;
-use js_tree::{Stmt, Stmts};
-use sqlite_items::Boxed;
+use js_tree::{Boxed, Stmt, Stmts};
 use std::alloc::Global;
 
 /// Why the tokens are no script within the limits of depth and nesting. Places are numbers of

@@ -11,8 +11,7 @@ ghost use Rattle.js_tree.specs.Tree as tree;
 use crate::for_parts::{ForRest, Iteration};
 use crate::stop::Stop;
 use dl_text::{TryCopy, Units};
-use js_tree::{Cases, Expr, ForInit, ForTarget, Stmt, Stmts, VarItem, VarItems};
-use sqlite_items::{Boxed, Items};
+use js_tree::{Boxed, Cases, Expr, ForInit, ForTarget, Stmt, Stmts, VarItem, VarItems};
 use std::alloc::Global;
 
 /// Statements in braces (ES3 12.1).
@@ -148,7 +147,7 @@ fn for_items(alloc: Global, items: VarItems, rest: ForRest) -> Result<Boxed<Stmt
 fn only(alloc: Global, item: Boxed<VarItem>) -> Result<VarItems, Stop>
     ensures { Makes (λ items. items) (item ∷ []) result }
 {
-    let mut items = Items::new(alloc);
+    let mut items = VarItems::new(alloc);
     items.push(item.into_inner())?;
     Ok(items)
 }

@@ -15,8 +15,7 @@ use crate::rules::Rules;
 use crate::stop::Stop;
 use crate::tokens::Tokens;
 use dl_text::Units;
-use js_tree::{Expr, Func, Stmt};
-use sqlite_items::Boxed;
+use js_tree::{Boxed, Expr, Func, Stmt};
 use std::alloc::Global;
 
 /// The rules of expressions, and what reads a nested statement.

@@ -4,8 +4,7 @@ ghost use Rattle.std.specs.Prelude.{◌≡◌};
 ghost use Rattle.js_parser.specs.Operators as operators;
 ghost use Rattle.js_tree.specs.Plain.{expr};
 
-use js_tree::Expr;
-use sqlite_items::Boxed;
+use js_tree::{Boxed, Expr};
 
 /// Whether an assignment, `++` and `--` may write to the expression: a name, a dot or an index
 /// (ES3 11.13).

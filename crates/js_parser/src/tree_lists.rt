@@ -11,8 +11,7 @@ ghost use Rattle.js_tree.specs.Tree as tree;
 use crate::names;
 use crate::stop::Stop;
 use dl_text::{Names, Units};
-use js_tree::{Case, Cases, Expr, Func, Role, Stmt, Stmts, VarItem, VarItems};
-use sqlite_items::Boxed;
+use js_tree::{Boxed, Case, Cases, Expr, Func, Role, Stmt, Stmts, VarItem, VarItems};
 use std::alloc::Global;
 
 /// A declarator (ES3 12.2).

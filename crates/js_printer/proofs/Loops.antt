@@ -9,6 +9,7 @@ use Rattle.js_tree.specs.Tree as plain
 use Rattle.js_tree.specs.Tree.{Name}
 use Rattle.js_tree.specs.Plain as view
 use Rattle.js_tree.specs.Plain.{PairPart, VarPart, CasePart}
+use Rattle.js_tree.specs.Parts as trees
 use Rattle.js_printer.specs.declared.writer.Printer.{Printer}
 use Rattle.js_printer.specs.Printed as printed
 use Rattle.js_printer.specs.Printed.{Kinds}
@@ -37,7 +38,7 @@ next_item f all p p1 p2 es xs i b n x u step same lt at before first second =
 
 -- ---- what is left by one item
 
-pub exprs_step : (b : Bool) (x : Expr) (es : List Expr) → parts.exprs_left b (parts.plain_exprs (x ∷ es)) ≡ comma b ++ (parts.operand true 2 x ++ parts.exprs_left true (parts.plain_exprs es))
+pub exprs_step : (b : Bool) (x : Expr) (es : List Expr) → parts.exprs_left b (trees.exprs (x ∷ es)) ≡ comma b ++ (parts.operand true 2 x ++ parts.exprs_left true (trees.exprs es))
 exprs_step true x es = refl
 exprs_step false x es = refl
 
@@ -49,15 +50,15 @@ behind_hole : (es : plain.Elements) → printed.other_elements plain.NoExpr es �
 behind_hole plain.NoElements = refl
 behind_hole (plain.MoreElements next es) = refl
 
-element_step : (b : Bool) (x : Expr) (es : List (Option Expr)) → parts.elements_left b (parts.plain_elements (Some x ∷ es)) ≡ comma b ++ (parts.operand true 2 x ++ parts.elements_left true (parts.plain_elements es))
+element_step : (b : Bool) (x : Expr) (es : List (Option Expr)) → parts.elements_left b (trees.elements (Some x ∷ es)) ≡ comma b ++ (parts.operand true 2 x ++ parts.elements_left true (trees.elements es))
 element_step true x es =
-    ap (λ t. k.Mark m.Comma ∷ (parts.operand true 2 x ++ t)) (behind_some (view.expr x) (parts.plain_elements es))
+    ap (λ t. k.Mark m.Comma ∷ (parts.operand true 2 x ++ t)) (behind_some (view.expr x) (trees.elements es))
 element_step false x es =
-    ap (λ t. parts.operand true 2 x ++ t) (behind_some (view.expr x) (parts.plain_elements es))
+    ap (λ t. parts.operand true 2 x ++ t) (behind_some (view.expr x) (trees.elements es))
 
-hole_step : (b : Bool) (es : List (Option Expr)) → parts.elements_left b (parts.plain_elements (None ∷ es)) ≡ comma b ++ ((k.Mark m.Comma ∷ []) ++ parts.elements_left false (parts.plain_elements es))
-hole_step true es = ap (λ t. k.Mark m.Comma ∷ t) (behind_hole (parts.plain_elements es))
-hole_step false es = behind_hole (parts.plain_elements es)
+hole_step : (b : Bool) (es : List (Option Expr)) → parts.elements_left b (trees.elements (None ∷ es)) ≡ comma b ++ ((k.Mark m.Comma ∷ []) ++ parts.elements_left false (trees.elements es))
+hole_step true es = ap (λ t. k.Mark m.Comma ∷ t) (behind_hole (trees.elements es))
+hole_step false es = behind_hole (trees.elements es)
 
 pub pairs_step : (b : Bool) (x : PairPart) (ps : List PairPart) → parts.pairs_left b (view.pairs (x ∷ ps)) ≡ comma b ++ (parts.pair_part x ++ parts.pairs_left true (view.pairs ps))
 pairs_step true x ps = refl
@@ -77,16 +78,16 @@ names_step false n ns = names_first n ns
 
 pub cases_step : (x : Case) (cs : List Case) → parts.cases (x ∷ cs) ≡ parts.case x ++ parts.cases cs
 cases_step x cs =
-    sym (append_assoc (printed.case_head (parts.plain_case x).test) (k.Mark m.Colon ∷ printed.stmts (parts.plain_case x).body) (parts.cases cs))
+    sym (append_assoc (printed.case_head (trees.case x).test) (k.Mark m.Colon ∷ printed.stmts (trees.case x).body) (parts.cases cs))
 
 pub hole_left : (b n : Bool) (x : Option Expr) (es : List (Option Expr)) → x ≡ None → n ≡ false
-    → parts.elements_left b (parts.plain_elements (x ∷ es)) ≡ comma b ++ ((k.Mark m.Comma ∷ []) ++ parts.elements_left n (parts.plain_elements es))
+    → parts.elements_left b (trees.elements (x ∷ es)) ≡ comma b ++ ((k.Mark m.Comma ∷ []) ++ parts.elements_left n (trees.elements es))
 hole_left b n x es h l =
-    ap (λ o. parts.elements_left b (parts.plain_elements (o ∷ es))) h ∙ hole_step b es
-    ∙ ap (λ next. comma b ++ ((k.Mark m.Comma ∷ []) ++ parts.elements_left next (parts.plain_elements es))) (sym l)
+    ap (λ o. parts.elements_left b (trees.elements (o ∷ es))) h ∙ hole_step b es
+    ∙ ap (λ next. comma b ++ ((k.Mark m.Comma ∷ []) ++ parts.elements_left next (trees.elements es))) (sym l)
 
 pub element_left : (b n : Bool) (x : Option Expr) (y : Expr) (es : List (Option Expr)) → x ≡ Some y → n ≡ true
-    → parts.elements_left b (parts.plain_elements (x ∷ es)) ≡ comma b ++ (parts.operand true 2 y ++ parts.elements_left n (parts.plain_elements es))
+    → parts.elements_left b (trees.elements (x ∷ es)) ≡ comma b ++ (parts.operand true 2 y ++ parts.elements_left n (trees.elements es))
 element_left b n x y es h l =
-    ap (λ o. parts.elements_left b (parts.plain_elements (o ∷ es))) h ∙ element_step b y es
-    ∙ ap (λ next. comma b ++ (parts.operand true 2 y ++ parts.elements_left next (parts.plain_elements es))) (sym l)
+    ap (λ o. parts.elements_left b (trees.elements (o ∷ es))) h ∙ element_step b y es
+    ∙ ap (λ next. comma b ++ (parts.operand true 2 y ++ parts.elements_left next (trees.elements es))) (sym l)

@@ -13,6 +13,7 @@ use Rattle.js_tree.specs.Levels.{operation_level}
 use Rattle.js_tree.specs.Tree as plain
 use Rattle.js_tree.specs.Tree.{Name}
 use Rattle.js_tree.specs.Plain as view
+use Rattle.js_tree.specs.Parts as trees
 use Rattle.js_printer.specs.Signs.{operation_sign, postfix_sign, assignment}
 use Rattle.js_printer.specs.Printed as printed
 use Rattle.js_printer.specs.Parts as parts
@@ -26,10 +27,10 @@ dot_view x name = ap view.expr (sym (rolls-Dot x name)) ∙ search (rules, fold-
 index_view : (x y : Expr) → view.expr (e.Index x y) ≡ plain.Index (view.expr x) (view.expr y)
 index_view x y = ap view.expr (sym (rolls-Index x y)) ∙ search (rules, fold-roll-Expr)
 
-call_view : (x : Expr) (es : List Expr) → view.expr (e.Call x es) ≡ plain.Call (view.expr x) (parts.plain_exprs es)
+call_view : (x : Expr) (es : List Expr) → view.expr (e.Call x es) ≡ plain.Call (view.expr x) (trees.exprs es)
 call_view x es = ap view.expr (sym (rolls-Call x es)) ∙ search (rules, fold-roll-Expr)
 
-new_view : (x : Expr) (es : List Expr) → view.expr (e.New x es) ≡ plain.New (view.expr x) (parts.plain_exprs es)
+new_view : (x : Expr) (es : List Expr) → view.expr (e.New x es) ≡ plain.New (view.expr x) (trees.exprs es)
 new_view x es = ap view.expr (sym (rolls-New x es)) ∙ search (rules, fold-roll-Expr)
 
 postfix_view : (x : Expr) (op : PostfixOp) → view.expr (e.Postfix x op) ≡ plain.Postfix (view.expr x) op

@@ -1,7 +1,6 @@
 -- The tokens of declared trees and of their parts: those of the plain trees.
-use Rattle.std.specs.Prelude.{ℕ, ◌||◌, Bool, true, false, List, [], ◌∷◌, ◌++◌, map}
+use Rattle.std.specs.Prelude.{ℕ, ◌||◌, Bool, true, false, List, [], ◌∷◌, ◌++◌}
 use Rattle.std.specs.Prelude.{Option, None, Some}
-use Rattle.std.specs.Option.{option_map}
 use Rattle.js_lexer.specs.declared.mark.Mark.TheVariants as m
 use Rattle.js_lexer.specs.declared.word.Word.{Word}
 use Rattle.js_lexer.specs.declared.token.TokenKind.TheVariants as k
@@ -13,52 +12,12 @@ use Rattle.js_tree.specs.declared.tree.Case.{Case}
 use Rattle.js_tree.specs.declared.tree.VarItem.{VarItem}
 use Rattle.js_tree.specs.declared.tree.ForInit.{ForInit}
 use Rattle.js_tree.specs.declared.tree.ForTarget.{ForTarget}
-use Rattle.js_tree.specs.declared.tree.Expr.TheFolds.{fold-Pair, fold-Case}
-use Rattle.js_tree.specs.declared.tree.Expr.TheFolds.{fold-VarItem, fold-ForInit, fold-ForTarget}
 use Rattle.js_tree.specs.Tree as plain
 use Rattle.js_tree.specs.Plain as view
-use Rattle.js_tree.specs.Plain.{CasePart, PairPart, VarPart, expr_level, for_init_level}
-use Rattle.js_tree.specs.Plain.{for_target_level, stmt_level, case_level, func_level, pair_level}
-use Rattle.js_tree.specs.Plain.{var_item_level}
+use Rattle.js_tree.specs.Plain.{PairPart, VarPart}
+use Rattle.js_tree.specs.Parts as trees
 use Rattle.js_printer.specs.Printed as printed
 use Rattle.js_printer.specs.Printed.{Kinds}
-
--- ---- the plain parts of declared ones
-
-abbrev pub plain_pair : Pair → PairPart
-plain_pair =
-    fold-Pair plain.Expr plain.ForInit plain.ForTarget plain.Stmt CasePart plain.Func PairPart
-    VarPart
-    expr_level for_init_level for_target_level stmt_level case_level func_level pair_level
-    var_item_level
-
-abbrev pub plain_case : Case → CasePart
-plain_case =
-    fold-Case plain.Expr plain.ForInit plain.ForTarget plain.Stmt CasePart plain.Func PairPart
-    VarPart
-    expr_level for_init_level for_target_level stmt_level case_level func_level pair_level
-    var_item_level
-
-abbrev pub plain_var_item : VarItem → VarPart
-plain_var_item =
-    fold-VarItem plain.Expr plain.ForInit plain.ForTarget plain.Stmt CasePart plain.Func PairPart
-    VarPart
-    expr_level for_init_level for_target_level stmt_level case_level func_level pair_level
-    var_item_level
-
-abbrev pub plain_for_init : ForInit → plain.ForInit
-plain_for_init =
-    fold-ForInit plain.Expr plain.ForInit plain.ForTarget plain.Stmt CasePart plain.Func PairPart
-    VarPart
-    expr_level for_init_level for_target_level stmt_level case_level func_level pair_level
-    var_item_level
-
-abbrev pub plain_for_target : ForTarget → plain.ForTarget
-plain_for_target =
-    fold-ForTarget plain.Expr plain.ForInit plain.ForTarget plain.Stmt CasePart plain.Func PairPart
-    VarPart
-    expr_level for_init_level for_target_level stmt_level case_level func_level pair_level
-    var_item_level
 
 -- ---- commas
 
@@ -113,20 +72,14 @@ is_function e = printed.is_function (view.expr e)
 abbrev pub is_constructor : Expr → Bool
 is_constructor e = printed.is_function (view.expr e) || printed.has_call (view.expr e)
 
-abbrev pub plain_exprs : List Expr → plain.Exprs
-plain_exprs es = view.exprs (map view.expr es)
-
 abbrev pub exprs : List Expr → Kinds
-exprs es = printed.exprs (plain_exprs es)
+exprs es = printed.exprs (trees.exprs es)
 
 abbrev pub maybe_expr : Option Expr → Kinds
-maybe_expr e = printed.maybe_expr (view.maybe_expr (option_map view.expr e))
-
-abbrev pub plain_elements : List (Option Expr) → plain.Elements
-plain_elements es = view.elements (map (option_map view.expr) es)
+maybe_expr e = printed.maybe_expr (trees.maybe_expr e)
 
 abbrev pub elements : List (Option Expr) → Kinds
-elements es = printed.elements (plain_elements es)
+elements es = printed.elements (trees.elements es)
 
 abbrev pub pair_part : PairPart → Kinds
 pair_part p =
@@ -134,24 +87,22 @@ pair_part p =
     ∷ (k.Mark m.Colon ∷ printed.operand true 2 p.value (printed.expr p.value))
 
 abbrev pub pair : Pair → Kinds
-pair p = pair_part (plain_pair p)
+pair p = pair_part (trees.pair p)
 
 abbrev pub pairs : List Pair → Kinds
-pairs ps = printed.pairs (view.pairs (map plain_pair ps))
+pairs ps = printed.pairs (trees.pairs ps)
 
 abbrev pub initialiser : Option Expr → Bool → Kinds
-initialiser e with_in =
-    printed.initialiser (view.maybe_expr (option_map view.expr e)) with_in
+initialiser e with_in = printed.initialiser (trees.maybe_expr e) with_in
 
 abbrev pub var_part : VarPart → Bool → Kinds
 var_part v with_in = k.Name v.name ∷ printed.initialiser v.value with_in
 
 abbrev pub var_item : VarItem → Bool → Kinds
-var_item v with_in = var_part (plain_var_item v) with_in
+var_item v with_in = var_part (trees.var_item v) with_in
 
 abbrev pub var_items : List VarItem → Bool → Kinds
-var_items items with_in =
-    printed.var_items (view.var_items (map plain_var_item items)) with_in
+var_items items with_in = printed.var_items (trees.var_items items) with_in
 
 abbrev pub func : Func → Kinds
 func f = printed.func (view.func f)
@@ -172,18 +123,18 @@ handler None = []
 handler (Some caught) = printed.handler (plain.ACatch caught.0 (view.stmt caught.1))
 
 abbrev pub for_init : ForInit → Kinds
-for_init first = printed.for_init (plain_for_init first)
+for_init first = printed.for_init (trees.for_init first)
 
 abbrev pub for_target : ForTarget → Kinds
-for_target target = printed.for_target (plain_for_target target)
+for_target target = printed.for_target (trees.for_target target)
 
 abbrev pub case_head : Option Expr → Kinds
-case_head test = printed.case_head (view.maybe_expr (option_map view.expr test))
+case_head test = printed.case_head (trees.maybe_expr test)
 
 abbrev pub case : Case → Kinds
 case c =
-    printed.case_head (plain_case c).test
-    ++ (k.Mark m.Colon ∷ printed.stmts (plain_case c).body)
+    printed.case_head (trees.case c).test
+    ++ (k.Mark m.Colon ∷ printed.stmts (trees.case c).body)
 
 abbrev pub cases : List Case → Kinds
-cases cs = printed.cases (view.cases (map plain_case cs))
+cases cs = printed.cases (trees.cases cs)

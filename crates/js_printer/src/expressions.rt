@@ -22,8 +22,7 @@ use crate::signs::{assignment_mark, write_operation, write_postfix, write_prefix
 use crate::writer::Printer;
 use dl_text::{Listed, Units};
 use js_lexer::{Mark, Word};
-use js_tree::{Elements, Expr, Exprs, Pair, Pairs};
-use sqlite_items::Boxed;
+use js_tree::{Boxed, Elements, Expr, Exprs, Pair, Pairs};
 use std::alloc::AllocError;
 
 /// An expression without parentheses around it, where the operator `in` may stand or not.

@@ -8,8 +8,7 @@ ghost use Rattle.js_printer.specs.Printed as printed;
 use crate::operands::{
     AND, ASSIGNMENT, CALL, COMMA, OR, is_function, is_number, needs, operation_level,
 };
-use js_tree::Expr;
-use sqlite_items::Boxed;
+use js_tree::{Boxed, Expr};
 
 /// Whether the first token of the expression is `{` or `function`. It goes down the left side of
 /// the tree, once for a statement.

@@ -18,8 +18,7 @@ use crate::operands::{ASSIGNMENT, CALL, COMMA};
 use crate::writer::Printer;
 use dl_text::{Listed, Units};
 use js_lexer::{Mark, Word};
-use js_tree::{Case, Cases, Expr, ForInit, ForTarget, Stmt, Stmts, VarItem, VarItems};
-use sqlite_items::Boxed;
+use js_tree::{Boxed, Case, Cases, Expr, ForInit, ForTarget, Stmt, Stmts, VarItem, VarItems};
 use std::alloc::AllocError;
 
 /// A statement, or a function declaration (ES3 section 13).

@@ -1,2 +1,9 @@
 pub mod PlainNodes
 pub mod Injective
+pub mod Equal
+pub mod AsMany
+pub mod OldNumbers
+pub mod NewNumbers
+pub mod RenumberedScripts
+pub mod Walks
+pub mod TreeLists

@@ -2,8 +2,11 @@ pub mod Tree
 pub mod Plain
 pub mod Parts
 pub mod Numbering
+pub mod Renumbering
 pub mod TreeRows
 pub mod PlainRows
 pub mod Levels
 pub mod Heights
 pub mod Depth
+pub mod Lends
+pub mod formers

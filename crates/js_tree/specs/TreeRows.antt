@@ -50,12 +50,12 @@ abbrev pub leaves : List Expr
 leaves = tree.Num 1 ∷ tree.Str x ∷ tree.Truth true ∷ tree.Null ∷ tree.This ∷ tree.Ident x
     ∷ tree.Late 1 ∷ []
 
--- those with others in them
-abbrev pub expressions : Expr → Expr → Expr → List Expr
-expressions a b c =
+-- those with others in them, and this function expression
+abbrev pub expressions_with : Expr → Expr → Expr → Expr → List Expr
+expressions_with f a b c =
     tree.Array (two_elements a b)
     ∷ tree.Object (two_pairs a b)
-    ∷ tree.Function (numbered 9 (two_statements a b))
+    ∷ f
     ∷ tree.Dot a x
     ∷ tree.Index a b
     ∷ tree.Call a (two_expressions b c)
@@ -70,6 +70,9 @@ expressions a b c =
     ∷ tree.Assign None a b
     ∷ []
 
+abbrev pub expressions : Expr → Expr → Expr → List Expr
+expressions a b c = expressions_with (tree.Function (numbered 9 (two_statements a b))) a b c
+
 -- the statements with nothing in them
 abbrev pub bare_statements : List Stmt
 bare_statements =
@@ -82,9 +85,9 @@ bare_statements =
     ∷ tree.Used 1
     ∷ []
 
--- those with expressions or statements in them
-abbrev pub statements : Expr → Expr → Expr → Expr → List Stmt
-statements a b c d =
+-- those with expressions or statements in them, and the declaration of this function
+abbrev pub statements_with : Func → Expr → Expr → Expr → Expr → List Stmt
+statements_with f a b c d =
     tree.Block (two_statements a b)
     ∷ tree.Variables (two_items a b)
     ∷ tree.Do a
@@ -103,8 +106,11 @@ statements a b c d =
     ∷ tree.Throw a
     ∷ tree.Try (tree.Do a) (tree.ACatch x (tree.Do b)) (tree.AStmt (tree.Do c))
     ∷ tree.Try (tree.Do a) tree.NoHandler tree.NoStmt
-    ∷ tree.Declare (numbered 9 (two_statements a b))
+    ∷ tree.Declare f
     ∷ []
+
+abbrev pub statements : Expr → Expr → Expr → Expr → List Stmt
+statements a b c d = statements_with (numbered 9 (two_statements a b)) a b c d
 
 -- ---- the numbers of the functions in them
 
@@ -123,11 +129,25 @@ script_of n = tree.MoreStmts (tree.Declare (numbered n tree.NoStmts)) tree.NoStm
 abbrev pub no_numbers : ℕ → List (List ℕ)
 no_numbers n = replicate n []
 
--- functions in one another
-abbrev pub nested : Expr
-nested = tree.Function (numbered 7 (two_statements
-    (tree.Function (numbered 8 (tree.MoreStmts (tree.Do (function 9)) tree.NoStmts)))
+-- functions in one another, with these numbers
+abbrev pub nested_with : ℕ → ℕ → ℕ → Expr
+nested_with a b c = tree.Function (numbered a (two_statements
+    (tree.Function (numbered b (tree.MoreStmts (tree.Do (function c)) tree.NoStmts)))
     tree.Null))
+
+abbrev pub nested : Expr
+nested = nested_with 7 8 9
+
+-- the same expressions and statements, with functions of these numbers
+abbrev pub expressions_from : ℕ → ℕ → ℕ → List Expr
+expressions_from a b c =
+    expressions_with (nested_with a b c) (function a) (function b) (function c)
+
+abbrev pub statements_from : ℕ → ℕ → ℕ → ℕ → List Stmt
+statements_from a b c d =
+    statements_with
+    (numbered a (two_statements (function b) (function c)))
+    (function a) (function b) (function c) (function d)
 
 abbrev pub one_number : List ℕ
 one_number = 1 ∷ []

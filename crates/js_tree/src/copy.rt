@@ -1,12 +1,12 @@
 //! Copies of whole trees.
 ghost use Rattle.std.specs.Prelude.{◌≡◌, IfOk};
 
+use crate::lists::Boxed;
 use crate::tree::{
     Case, Cases, Elements, Expr, Exprs, ForInit, ForTarget, Func, Pair, Pairs, Script, Stmt, Stmts,
     VarItem, VarItems,
 };
 use dl_text::{Listed, TryCopy, Units};
-use sqlite_items::Boxed;
 use std::alloc::{AllocError, Global};
 
 impl TryCopy for Script {

@@ -7,12 +7,12 @@ ghost use Rattle.js_tree.specs.Heights as heights;
 ghost use Rattle.js_tree.specs.Parts as parts;
 ghost use Rattle.js_tree.specs.Plain as view;
 
+use crate::lists::Boxed;
 use crate::tree::{
     Case, Cases, Elements, Expr, Exprs, ForInit, ForTarget, Func, Pair, Pairs, Script, Stmt, Stmts,
     VarItem, VarItems,
 };
 use dl_text::{Listed, Units};
-use sqlite_items::Boxed;
 
 /// How deep a script is: how many nodes stand in one another at most, where its own statements are
 /// at depth 1. Of a depth above 2^32 - 1 it tells that.

@@ -3,9 +3,9 @@
 ghost use Rattle.std.specs.Prelude.{◌≡◌, ◌↔◌, IsTrue};
 ghost use Rattle.js_tree.specs.Plain as view;
 
+use crate::lists::Boxed;
 use crate::tree::{Case, Expr, ForInit, ForTarget, Func, Pair, Script, Stmt, VarItem};
 use dl_text::{Listed, Units};
-use sqlite_items::Boxed;
 
 /// Whether two scripts are the same tree, with the same numbers and roles of functions.
 pub fn same(left: &Script, right: &Script) -> bool

@@ -8,6 +8,9 @@
 mod copy;
 mod depths;
 mod equality;
+mod laws;
+mod lists;
+mod numbers;
 mod rows;
 #[cfg(test)]
 mod tests;
@@ -15,7 +18,10 @@ mod tree;
 
 pub use depths::depth;
 pub use equality::same;
-pub use rows::{functions_in_trees, numbered_scripts, plain_nodes};
+pub use laws::scripts_are_renumbered;
+pub use lists::{Boxed, Items};
+pub use numbers::number_functions;
+pub use rows::{functions_in_trees, numbered_scripts, plain_nodes, renumbered_trees};
 pub use tree::{
     BinaryOp, Case, Cases, Elements, Expr, Exprs, ForInit, ForTarget, Func, LAST_FUNCTION_NUMBER,
     Pair, Pairs, PostfixOp, PrefixOp, Role, Script, Scripts, Stmt, Stmts, VarItem, VarItems,

@@ -6,6 +6,8 @@ ghost use Rattle.js_tree.specs.Plain.{case_level, expr_level, for_init_level, fo
 ghost use Rattle.js_tree.specs.Plain.{func_level, pair_level, stmt_level, var_item_level};
 ghost use Rattle.js_tree.specs.PlainRows as row;
 ghost use Rattle.js_tree.specs.Numbering.{IsNumbered};
+ghost use Rattle.js_tree.specs.Renumbering.{Alike, counted, expr as renumbered_expr, renumbered};
+ghost use Rattle.js_tree.specs.Renumbering.{stmt as renumbered_stmt};
 ghost use Rattle.js_tree.specs.TreeRows as small;
 
 /// The plain tree of a node is that of its kind, with the plain trees of its parts in their places.
@@ -48,4 +50,22 @@ pub fn numbered_scripts()
     ensures no_number_twice { IsNumbered (small.script_of 1 ∷ small.script_of 1 ∷ []) → ⊥ }
     ensures no_number_left_out { IsNumbered (small.script_of 1 ∷ small.script_of 3 ∷ []) → ⊥ }
     ensures not_in_another_order { IsNumbered (small.script_of 2 ∷ small.script_of 1 ∷ []) → ⊥ }
+{}
+
+/// Functions get the numbers 1, 2, .. in the order of the text, whatever numbers they had.
+pub fn renumbered_trees()
+    ensures two_scripts { renumbered 1 (small.script_of 7 ∷ small.script_of 7 ∷ [])
+        ≡ small.script_of 1 ∷ small.script_of 2 ∷ [] }
+    ensures from_another { renumbered 4 (small.script_of 1 ∷ []) ≡ small.script_of 4 ∷ [] }
+    ensures in_one_another { renumbered_expr counted 1 (small.nested_with 7 8 9)
+        ≡ small.nested_with 1 2 3 }
+    ensures in_leaves { map (renumbered_expr counted 1) small.leaves ≡ small.leaves }
+    ensures in_expressions { map (renumbered_expr counted 1) (small.expressions_from 9 9 9)
+        ≡ small.expressions_from 1 2 3 }
+    ensures in_bare_statements { map (renumbered_stmt counted 1) small.bare_statements
+        ≡ small.bare_statements }
+    ensures in_statements { map (renumbered_stmt counted 1) (small.statements_from 9 9 9 9)
+        ≡ small.statements_from 1 2 3 4 }
+    ensures alike { Alike (small.script_of 1 ∷ []) (small.script_of 2 ∷ []) }
+    ensures not_alike { Alike (small.script_of 1 ∷ []) [] → ⊥ }
 {}

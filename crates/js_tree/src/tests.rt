@@ -1,9 +1,8 @@
 use crate::{
-    Case, Cases, Elements, Expr, Exprs, ForInit, Func, Pair, Pairs, Role, Script, Scripts, Stmt,
-    Stmts, VarItem, VarItems, depth, same,
+    Boxed, Case, Cases, Elements, Expr, Exprs, ForInit, Func, Pair, Pairs, Role, Script, Scripts,
+    Stmt, Stmts, VarItem, VarItems, depth, same,
 };
 use dl_text::{Listed, Names, TryCopy, units_of};
-use sqlite_items::Boxed;
 use std::alloc::{AllocError, Global};
 use std::test::Fail;
 

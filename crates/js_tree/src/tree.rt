@@ -1,5 +1,5 @@
+use crate::lists::{Boxed, Items};
 use dl_text::{Names, Units};
-use sqlite_items::{Boxed, Items};
 
 /// The greatest number of a function.
 pub const LAST_FUNCTION_NUMBER: u32 = 65_535;

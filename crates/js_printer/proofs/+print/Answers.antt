@@ -1,9 +1,9 @@
-use Rattle.std.proofs.Common.{Bool, false, true, List, [], ◌∷◌, ◌++◌, Option, map, refl, sym, ap, ◌∙◌}
+use Rattle.std.proofs.Common.{Bool, false, true, List, [], ◌∷◌, ◌++◌, Option, refl, sym, ap, ◌∙◌}
 use Rattle.js_lexer.specs.declared.mark.Mark.TheVariants as m
 use Rattle.js_lexer.specs.declared.token.TokenKind.TheVariants as k
 use Rattle.js_lexer.specs.declared.word.Word.TheVariants as w
 use Rattle.js_tree.specs.declared.tree.Expr.{Expr}
-use Rattle.js_tree.specs.Plain as view
+use Rattle.js_tree.specs.Parts as trees
 use Rattle.js_printer.specs.Parts as parts
 use Rattle.js_printer.specs.Printed.{Kinds, enclosed, maybe_name, names}
 use Rattle.js_printer.specs.Written.{all_written}
@@ -16,12 +16,12 @@ use Rattle.js_printer.proofs.+print.Goals as goal
 pub expressions::write_exprs-loop-expr-preserved :
     goal.expressions::write_exprs-loop-expr-preserved
 expressions::write_exprs-loop-expr-preserved t c =
-    next_item (λ b es. parts.exprs_left b (parts.plain_exprs es)) _ _ _ _ _ _ _ _ true _ (parts.operand true 2 c.expr-item.result) (exprs_step _ _ _) c.items-expr-items.ensures c.loop-expr-test.true c.expr-item.is c.loop-expr.invariant c.in_ok-comma.ensures c.in_ok-write_operand.ensures
+    next_item (λ b es. parts.exprs_left b (trees.exprs es)) _ _ _ _ _ _ _ _ true _ (parts.operand true 2 c.expr-item.result) (exprs_step _ _ _) c.items-expr-items.ensures c.loop-expr-test.true c.expr-item.is c.loop-expr.invariant c.in_ok-comma.ensures c.in_ok-write_operand.ensures
 
 pub expressions::write_pairs-loop-pair-preserved :
     goal.expressions::write_pairs-loop-pair-preserved
 expressions::write_pairs-loop-pair-preserved t c =
-    next_item (λ b ps. parts.pairs_left b (view.pairs (map parts.plain_pair ps))) _ _ _ _ _ _ _ _ true _ (parts.pair c.pair-item.result) (pairs_step _ _ _) c.items-pair-items.ensures c.loop-pair-test.true c.pair-item.is c.loop-pair.invariant c.in_ok-comma.ensures c.in_ok-write_pair.ensures
+    next_item (λ b ps. parts.pairs_left b (trees.pairs ps)) _ _ _ _ _ _ _ _ true _ (parts.pair c.pair-item.result) (pairs_step _ _ _) c.items-pair-items.ensures c.loop-pair-test.true c.pair-item.is c.loop-pair.invariant c.in_ok-comma.ensures c.in_ok-write_pair.ensures
 
 pub statements::write_stmts-loop-stmt-preserved :
     goal.statements::write_stmts-loop-stmt-preserved
@@ -36,12 +36,12 @@ statements::write_cases-loop-case-preserved t c =
 pub statements::write_var_items-loop-item-preserved :
     goal.statements::write_var_items-loop-item-preserved
 statements::write_var_items-loop-item-preserved t c =
-    next_item (λ b vs. parts.var_items_left b (view.var_items (map parts.plain_var_item vs)) c.args.with_in) _ _ _ _ _ _ _ _ true _ (parts.var_item c.item-item.result c.args.with_in) (var_items_step _ _ _ _) c.items-item-items.ensures c.loop-item-test.true c.item-item.is c.loop-item.invariant c.in_ok-comma.ensures c.in_ok-write_var_item.ensures
+    next_item (λ b vs. parts.var_items_left b (trees.var_items vs) c.args.with_in) _ _ _ _ _ _ _ _ true _ (parts.var_item c.item-item.result c.args.with_in) (var_items_step _ _ _ _) c.items-item-items.ensures c.loop-item-test.true c.item-item.is c.loop-item.invariant c.in_ok-comma.ensures c.in_ok-write_var_item.ensures
 
 pub expressions::write_elements-loop-element-preserved :
     goal.expressions::write_elements-loop-element-preserved
 expressions::write_elements-loop-element-preserved t c =
-    let left : Bool → List (Option Expr) → Kinds = λ b es. parts.elements_left b (parts.plain_elements es) in
+    let left : Bool → List (Option Expr) → Kinds = λ b es. parts.elements_left b (trees.elements es) in
     elim c.match-element.branch [
       | expressions::write_elements-in-None+in_ok-mark-in-None arm ↦
           next_item left _ _ _ _ _ _ _ _ c.match-element.is_behind c.element-item.result (k.Mark m.Comma ∷ []) (hole_left _ _ _ _ arm.in-None.is arm.is_behind-is) c.items-element-items.ensures c.loop-element-test.true c.element-item.is c.loop-element.invariant c.in_ok-comma.ensures (arm.printer-is ∙ arm.in_ok-mark-in-None.ensures)
