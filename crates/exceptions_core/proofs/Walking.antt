@@ -74,3 +74,6 @@ goes (frame ∷ outer) c h = let e : way_in (taken frame c) ≡ way.Goes = cc in
 pub passes : (frame : Frame) (outer frames : List Frame) (c : Completion) → way_at frames c ≡ Some way.Passes → frames ≡ frame ∷ outer → unwind frames c ≡ unwind outer c
 passes frame outer [] c h e = cc
 passes frame outer (first ∷ rest) c h e = let w : way_in (taken first c) ≡ way.Passes = cc in let k : rest ≡ outer = cc in ap (λ t. landed t first rest (unwind rest c)) ((tells first c).0 w) ∙ ap (λ l. unwind l c) k
+
+-- what a turn of the walk does
+pub ruleset walks = (nowhere, stays, goes, passes)

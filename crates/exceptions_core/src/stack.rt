@@ -52,7 +52,7 @@ impl Frames {
 
     /// Goes to the innermost frame that takes the completion (ES3 12.7 to 12.14). The frames inside
     /// it go. It takes no memory.
-    #[tactic(auto, using(crate::proofs::Walking::nowhere, crate::proofs::Walking::stays, crate::proofs::Walking::goes, crate::proofs::Walking::passes))]
+    #[tactic(auto, using(crate::proofs::Walking::walks))]
     pub fn unwind(&mut self, c: Completion) -> Landing
         ensures { (result, self.new) ≡ unwind self.old c }
     {

@@ -3,4 +3,15 @@ pub mod Growing
 pub mod Joining
 pub mod Pages
 pub mod Lists
+pub mod Operating
+pub mod TextOrder
+pub mod StackLists
+pub mod ExpressionLaws
+pub mod StatementLaws
+pub mod LoopLaws
+pub mod FlowLaws
+pub mod ValueLaws
 pub mod fitting
+pub mod StepLaws
+pub mod ScriptLaws
+pub mod HaltLaws

@@ -21,4 +21,10 @@ pub mod Run
 pub mod Page
 pub mod Logs
 pub mod Laws
+pub mod Operated
+pub mod Stacks
+pub mod Built
+pub mod NotBuilt
+pub mod Rest
 pub mod Reachable
+pub mod Halts

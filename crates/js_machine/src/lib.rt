@@ -1,14 +1,31 @@
-//! What programs mean (ES3 8 to 14), as definitions so far: nothing is run here yet. The meaning of
-//! a node is a program of asks, and a run answers them under a budget of steps. The layer above may
-//! know the asks (`specs/Asks.antt`), the program of each node (`specs/Programs.antt`), the state
+//! What programs mean (ES3 8 to 14), and the machine that runs them. The meaning of a node is a
+//! program of asks, and a run answers them under a budget of steps. The layer above may know the
+//! asks (`specs/Asks.antt`), the program of each node (`specs/Programs.antt`), the state
 //! (`specs/State.antt`), runs (`specs/Run.antt`), pages, original and written (`specs/Page.antt`),
-//! what is read of a run (`specs/Logs.antt`), and the laws in `laws`. Worked runs stand in
-//! `machine_rows`.
+//! what is read of a run (`specs/Logs.antt`), the laws in `laws`, and how a run of the machine ends
+//! (`specs/Halts.antt`). The machine runs the nodes of `specs/Built.antt`, and stops at any other
+//! as not built yet. Worked runs stand in `machine_rows` and `machine_table`.
 #![tactic(auto)]
 
+mod begin;
+mod clock;
+mod expressions;
+mod flow;
+mod frame;
+mod hosts;
 mod laws;
+mod loops;
+mod machine;
+mod operators;
+mod run;
+mod stacks;
+mod statements;
+mod task;
+mod values;
 
 pub use laws::{
     lists_are_applied, long_texts_stop, nodes_have_parts, pages_grow, pages_rise,
     reached_states_keep, runs_grow, steps_rise,
 };
+pub use machine::Machine;
+pub use task::Halt;

@@ -1,0 +1,72 @@
+-- Where the machine stops since what comes next is not built yet.
+use Rattle.std.specs.Prelude.{◌≡◌, Bool, true, false, ◌||◌, List, [], ◌∷◌, None}
+use Rattle.js_values.specs.declared.value.Value.{Value}
+use Rattle.object_heap.specs.Names.{Name}
+use Rattle.js_tree.specs.Plain.{expr, stmt}
+use Rattle.js_tree.specs.Plain as view
+use Rattle.js_tree.specs.Tree.{Func, Stmts, NoStmts, MoreStmts}
+use Rattle.js_calls.specs.Declared.{functions_of, vars_in_all}
+use Rattle.js_code.specs.Cursors.{stmts_from}
+use Rattle.js_machine.specs.declared.frame.Frame.{Frame}
+use Rattle.js_machine.specs.declared.frame.Frame.TheVariants as frame
+use Rattle.js_machine.specs.declared.frame.Control.{Control}
+use Rattle.js_machine.specs.declared.frame.Control.TheVariants as control
+use Rattle.js_machine.specs.declared.frame.Unbuilt.{Unbuilt}
+use Rattle.js_machine.specs.declared.frame.Unbuilt.TheVariants as unbuilt
+use Rattle.js_machine.specs.declared.machine.Machine.{Machine}
+use Rattle.js_machine.specs.Operated.{operated}
+use Rattle.js_machine.specs.Built.{is_begun, is_built_expression, is_built_statement}
+use Rattle.js_machine.specs.Stacks.{top, below}
+
+-- the newest value is for an operator that has to look into an object, or is not built
+abbrev pub LooksInside : List Frame → List Value → Type 0
+LooksInside [] vs = ⊥
+LooksInside (frame.Left op right ∷ fs) vs = ⊥
+LooksInside (frame.Right op ∷ fs) vs = operated op (top (below vs)) (top vs) ≡ None
+LooksInside (frame.And right ∷ fs) vs = ⊥
+LooksInside (frame.Or right ∷ fs) vs = ⊥
+LooksInside (frame.Comma right ∷ fs) vs = ⊥
+LooksInside (frame.Cond first second ∷ fs) vs = ⊥
+LooksInside (frame.Do ∷ fs) vs = ⊥
+LooksInside (frame.Next ss i ∷ fs) vs = ⊥
+LooksInside (frame.If s ∷ fs) vs = ⊥
+LooksInside (frame.Test s ∷ fs) vs = ⊥
+LooksInside (frame.Turn s ∷ fs) vs = ⊥
+LooksInside (frame.Again s ∷ fs) vs = ⊥
+
+-- whether a list goes on with a statement that is begun, or ends
+abbrev pub goes_on_built : Stmts → Bool
+goes_on_built NoStmts = true
+goes_on_built (MoreStmts s ss) = is_begun s
+
+abbrev pub has_some : List Name → Bool
+has_some [] = false
+has_some (name ∷ names) = true
+
+abbrev pub has_functions : List Func → Bool
+has_functions [] = false
+has_functions (f ∷ fs) = true
+
+abbrev pub declares : Stmts → Bool
+declares ss = has_functions (functions_of ss) || has_some (vars_in_all ss)
+
+abbrev pub IsNotBuilt : Unbuilt → Machine → Type 0
+IsNotBuilt (unbuilt.Expr e) m = is_built_expression (expr e) ≡ false
+IsNotBuilt (unbuilt.Stmt s) m = is_built_statement (stmt s) ≡ false
+IsNotBuilt (unbuilt.Body s) m = is_built_statement (stmt s) ≡ false
+IsNotBuilt unbuilt.Give m = LooksInside m.frames m.values
+IsNotBuilt (unbuilt.List ss i) m = goes_on_built (stmts_from ss i) ≡ false
+IsNotBuilt (unbuilt.Script ss) m = declares (view.body ss) ≡ true
+
+-- the machine says that something is not built only where that is so
+abbrev pub StopsRightly : Control → Machine → Type 0
+StopsRightly (control.Expr e) m = Unit {0}
+StopsRightly (control.Stmt s) m = Unit {0}
+StopsRightly (control.Body s) m = Unit {0}
+StopsRightly control.Give m = Unit {0}
+StopsRightly control.Done m = Unit {0}
+StopsRightly control.Break m = Unit {0}
+StopsRightly control.Continue m = Unit {0}
+StopsRightly control.Throw m = Unit {0}
+StopsRightly (control.End e) m = Unit {0}
+StopsRightly (control.Unbuilt what) m = IsNotBuilt what m

@@ -1,0 +1,269 @@
+-- What is left of a run, by the machine's control, its frames and its values.
+use Rattle.std.specs.Prelude.{◌≡◌, ◌≤◌, ℕ, ◌+◌, ◌*◌, if◌then◌else◌}
+use Rattle.std.specs.Prelude.{List, [], ◌∷◌, length, map, Option, Some, None}
+use Rattle.js_values.specs.declared.value.Value.{Value}
+use Rattle.js_values.specs.Shown.{Passed}
+use Rattle.js_values.specs.Values.{truth_of}
+use Rattle.exceptions_core.specs.declared.completion.Completion.TheVariants as completion
+use Rattle.exceptions_core.specs.declared.completion.Frame.TheVariants as frames
+use Rattle.exceptions_core.specs.declared.completion.Landing.{Landing}
+use Rattle.object_heap.specs.Names.{Name}
+use Rattle.object_heap.specs.Objects.{Heap}
+use Rattle.scope_arena.specs.Scopes.{entered}
+use Rattle.js_tree.specs.declared.tree.Stmt as declared_stmt
+use Rattle.js_tree.specs.Tree.{Expr, Stmt}
+use Rattle.js_tree.specs.Plain.{expr, stmt}
+use Rattle.js_tree.specs.Plain as view
+use Rattle.js_code.specs.Cursors.{stmts_from}
+use Rattle.js_code.specs.Projections.{IfTree, LoopTree, if_parts, loop_parts}
+use Rattle.js_machine.specs.declared.hosts.HostCall.{HostCall}
+use Rattle.js_machine.specs.declared.machine.Machine.{Machine}
+use Rattle.js_machine.specs.declared.frame.Frame.{Frame}
+use Rattle.js_machine.specs.declared.frame.Frame.TheVariants as frame
+use Rattle.js_machine.specs.declared.frame.Control.{Control}
+use Rattle.js_machine.specs.declared.frame.Control.TheVariants as control
+use Rattle.js_machine.specs.declared.frame.End.{End}
+use Rattle.js_machine.specs.declared.frame.End.TheVariants as end
+use Rattle.js_machine.specs.declared.frame.Over.{Over}
+use Rattle.js_machine.specs.declared.frame.Over.TheVariants as over
+use Rattle.js_machine.specs.declared.frame.Unbuilt.TheVariants as unbuilt
+use Rattle.js_machine.specs.Asks.{Program, Tail, Turn, CountTurn, Outcome, Gives}
+use Rattle.js_machine.specs.Asks.{Ends, AnExpr, AStmt, ATurn, Loop}
+use Rattle.js_machine.specs.Frames.{gives, done, on_value, value_of, after_statement, at_frame}
+use Rattle.js_machine.specs.Operators.{operate}
+use Rattle.js_machine.specs.Statements.{statement, statements, otherwise}
+use Rattle.js_machine.specs.Expressions.{expression}
+use Rattle.js_machine.specs.Loops.{on_test, next_turn, updated}
+use Rattle.js_machine.specs.Entries.{enter_script}
+use Rattle.js_machine.specs.Programs.{program}
+use Rattle.js_machine.specs.State.{State, Body, OfHost}
+use Rattle.js_machine.specs.Run.{World, Trace, Stack, pop, due, run}
+use Rattle.js_machine.specs.Run as trace
+use Rattle.js_machine.specs.Page.{script_env}
+use Rattle.js_machine.specs.Stacks.{top, below}
+
+-- ---- parts of the state and of nodes
+
+-- the body of a host call
+abbrev pub host_body : HostCall → ℕ × Body
+host_body call = (call.object, OfHost call.name)
+
+-- a loop without labels
+abbrev pub loop_with : LoopTree → Loop
+loop_with p = record { labels = []; test = p.test; update = p.update; body = p.body }
+
+-- ---- what the machine does not keep: what a run is given, and what the host has seen of it
+
+pub record Outside : Type 0 where
+  pub world : World
+  pub called : List Name
+  pub passed : Passed
+
+abbrev pub state_of : Heap → List HostCall → ℕ → ℕ → Outside → State
+state_of heap hosts beats steps out = record {
+  heap = heap;
+  bodies = map host_body hosts;
+  scopes = entered [] None [];
+  listeners = [];
+  called = out.called;
+  passed = out.passed;
+  beats = beats;
+  steps = steps;
+}
+
+-- ---- what waits
+
+-- the test of an `if` has its value; what is no `if` ends
+abbrev pub branched : Option IfTree → Value → Program
+branched None v = done
+branched (Some p) v =
+    if truth_of v then Tail (AStmt [] p.first) script_env else otherwise p.second script_env
+
+-- ---- loops; what is no loop ends
+
+abbrev pub turning : Option LoopTree → Program
+turning None = done
+turning (Some p) = Turn (loop_with p) script_env
+
+abbrev pub updating : Option LoopTree → Program
+updating None = done
+updating (Some p) = updated p.update (loop_with p) script_env
+
+abbrev pub tested : Option LoopTree → Value → Program
+tested None = λ v. done
+tested (Some p) = on_test (loop_with p) script_env
+
+abbrev pub next_of : Option LoopTree → Landing → Program
+next_of None = λ landing. done
+next_of (Some p) = next_turn (loop_with p) script_env
+
+abbrev pub waits : Frame → List Value → Outcome → Program
+waits (frame.Left op right) vs =
+    on_value (λ v. value_of (expr right) script_env (λ w. operate op v w gives))
+waits (frame.Right op) vs = on_value (λ w. operate op (top vs) w gives)
+waits (frame.And right) vs =
+    on_value (λ v. if truth_of v then Tail (AnExpr (expr right)) script_env else gives v)
+waits (frame.Or right) vs =
+    on_value (λ v. if truth_of v then gives v else Tail (AnExpr (expr right)) script_env)
+waits (frame.Comma right) vs = on_value (λ v. Tail (AnExpr (expr right)) script_env)
+waits (frame.Cond first second) vs =
+    on_value (λ v. if truth_of v then Tail (AnExpr (expr first)) script_env
+    else Tail (AnExpr (expr second)) script_env)
+waits frame.Do vs = on_value (λ v. done)
+waits (frame.Next ss i) vs = after_statement (statements (stmts_from ss i) script_env)
+waits (frame.If s) vs = on_value (branched (if_parts (stmt s)))
+waits (frame.Test s) vs = on_value (tested (loop_parts (stmt s)))
+waits (frame.Turn s) vs = at_frame (frames.Loop []) (next_of (loop_parts (stmt s)))
+waits (frame.Again s) vs = on_value (λ v. turning (loop_parts (stmt s)))
+
+-- the values below those that the frame owns
+abbrev pub under : Frame → List Value → List Value
+under (frame.Left op right) vs = vs
+under (frame.Right op) vs = below vs
+under (frame.And right) vs = vs
+under (frame.Or right) vs = vs
+under (frame.Comma right) vs = vs
+under (frame.Cond first second) vs = vs
+under frame.Do vs = vs
+under (frame.Next ss i) vs = vs
+under (frame.If s) vs = vs
+under (frame.Test s) vs = vs
+under (frame.Turn s) vs = vs
+under (frame.Again s) vs = vs
+
+abbrev pub stack : List Frame → List Value → Stack
+stack [] vs = []
+stack (f ∷ fs) vs = waits f vs ∷ stack fs (under f vs)
+
+-- ---- what is left
+
+-- at some place of the machine, by the steps that are left, its frames, values, heap, host calls,
+-- beats and steps
+abbrev pub Left : Type 0
+Left = ℕ → List Frame → List Value → Heap → List HostCall → ℕ → ℕ → Outside → Trace
+
+-- a program goes on, and one whose step is due
+abbrev pub running : Program → Left
+running p n fs vs heap hosts beats steps out =
+    run out.world n p (stack fs vs) (state_of heap hosts beats steps out)
+
+abbrev pub starting : Program → Left
+starting p n fs vs heap hosts beats steps out =
+    due out.world n p (stack fs vs) (state_of heap hosts beats steps out)
+
+-- an outcome goes to what waits, and one that has the newest value
+abbrev pub popped : Outcome → Left
+popped o n fs vs heap hosts beats steps out =
+    pop out.world (due out.world n) (stack fs vs) o (state_of heap hosts beats steps out)
+
+abbrev pub popped_with : (Value → Outcome) → Left
+popped_with o n fs vs heap hosts beats steps out =
+    pop out.world (due out.world n) (stack fs (below vs)) (o (top vs))
+    (state_of heap hosts beats steps out)
+
+abbrev pub thrown : Value → Outcome
+thrown v = Ends (completion.Throw v)
+
+abbrev pub ended : End → List Value → State → Trace
+ended end.Gave vs s = trace.End (Gives (top vs)) s
+ended end.Done vs s = trace.End (Ends completion.Normal) s
+ended end.Broke vs s = trace.End (Ends (completion.Break None)) s
+ended end.Continued vs s = trace.End (Ends (completion.Continue None)) s
+ended end.Threw vs s = trace.End (thrown (top vs)) s
+ended end.OutOfSteps vs s = trace.OutOfSteps s
+ended (end.Stopped reason) vs s = trace.Stopped reason s
+
+abbrev pub at_end : End → Left
+at_end e n fs vs heap hosts beats steps out = ended e vs (state_of heap hosts beats steps out)
+
+unfoldable pub rest : Control → Left
+rest (control.Expr e) = starting (program (AnExpr (expr e)) script_env)
+rest (control.Stmt s) = starting (program (AStmt [] (stmt s)) script_env)
+rest (control.Body s) = starting (program (ATurn (stmt s)) script_env)
+rest control.Give = popped_with Gives
+rest control.Done = popped (Ends completion.Normal)
+rest control.Break = popped (Ends (completion.Break None))
+rest control.Continue = popped (Ends (completion.Continue None))
+rest control.Throw = popped_with thrown
+rest (control.End e) = at_end e
+rest (control.Unbuilt (unbuilt.Expr e)) = starting (program (AnExpr (expr e)) script_env)
+rest (control.Unbuilt (unbuilt.Stmt s)) = starting (program (AStmt [] (stmt s)) script_env)
+rest (control.Unbuilt (unbuilt.Body s)) = starting (program (ATurn (stmt s)) script_env)
+rest (control.Unbuilt unbuilt.Give) = popped_with Gives
+rest (control.Unbuilt (unbuilt.List ss i)) = running (statements (stmts_from ss i) script_env)
+rest (control.Unbuilt (unbuilt.Script ss)) = starting (enter_script (view.body ss) script_env)
+
+-- ---- inside a node whose step was taken
+
+unfoldable pub in_expr : Expr → Left
+in_expr e = running (expression e script_env)
+
+unfoldable pub in_stmt : Stmt → Left
+in_stmt s = running (statement [] s script_env)
+
+unfoldable pub in_body : Stmt → Left
+in_body s = running (CountTurn (statement [] s script_env))
+
+unfoldable pub in_list : List declared_stmt.Stmt → ℕ → Left
+in_list ss i = running (statements (stmts_from ss i) script_env)
+
+unfoldable pub in_turn : declared_stmt.Stmt → Left
+in_turn s = running (turning (loop_parts (stmt s)))
+
+unfoldable pub in_update : declared_stmt.Stmt → Left
+in_update s = running (updating (loop_parts (stmt s)))
+
+-- ---- inside a frame
+
+unfoldable pub in_value : Frame → Left
+in_value f n fs vs = running (waits f (below vs) (Gives (top vs))) n fs (under f (below vs))
+
+unfoldable pub in_done : Frame → Left
+in_done f n fs vs = running (waits f vs (Ends completion.Normal)) n fs (under f vs)
+
+unfoldable pub in_break : Frame → Left
+in_break f n fs vs = running (waits f vs (Ends (completion.Break None))) n fs (under f vs)
+
+unfoldable pub in_continue : Frame → Left
+in_continue f n fs vs = running (waits f vs (Ends (completion.Continue None))) n fs (under f vs)
+
+unfoldable pub in_throw : Frame → Left
+in_throw f n fs vs = running (waits f (below vs) (thrown (top vs))) n fs (under f (below vs))
+
+-- ---- steps
+
+abbrev pub state : Machine → Outside → State
+state m out = state_of m.heap m.hosts m.beats m.clock.0 out
+
+abbrev pub at : Left → Machine → Outside → Trace
+at left m out = left m.clock.1 m.frames m.values m.heap m.hosts m.beats m.clock.0 out
+
+-- the machine went from old to new, and what is left is the same; the host was not asked
+abbrev pub Same : Left → Machine → Control → Machine → Type 0
+Same before old next new = (out : Outside) → at before old out ≡ at (rest next) new out
+
+-- where the machine is over
+abbrev pub over_control : Over → Control
+over_control (over.End e) = control.End e
+over_control (over.Unbuilt u) = control.Unbuilt u
+
+-- ---- for the measure of the loop
+
+abbrev pub weight : Control → ℕ
+weight (control.Expr e) = 1
+weight (control.Stmt s) = 1
+weight (control.Body s) = 1
+weight control.Give = 4
+weight control.Done = 4
+weight control.Break = 4
+weight control.Continue = 4
+weight control.Throw = 4
+weight (control.End e) = 0
+weight (control.Unbuilt u) = 0
+
+abbrev pub measure : Control → Machine → ℕ
+measure next m = 8 * m.clock.1 + 2 * length m.frames + weight next
+
+-- the machine goes on no longer than old with two frames more
+abbrev pub Falls : Machine → Control → Machine → Type 0
+Falls old next new = measure next new ≤ 8 * old.clock.1 + 2 * length old.frames + 5

@@ -1,0 +1,169 @@
+//! Nodes are begun: what is built of the language, and what each node does once its step is taken.
+
+ghost use Rattle.std.specs.Prelude.{◌≡◌, ◌∷◌, ◌≤◌, ◌<◌, ◌+◌, ◌*◌};
+ghost use Rattle.std.specs.Prelude.{length, true, IfOk};
+ghost use Rattle.js_tree.specs.Plain.{expr, stmt};
+ghost use Rattle.js_machine.specs.NotBuilt.{StopsRightly};
+ghost use Rattle.js_machine.specs.Built.{is_built_expression, is_built_statement, is_plain_jump};
+ghost use Rattle.js_machine.specs.Rest.{Falls, Same, in_expr, in_stmt, rest};
+
+use crate::frame::{Control, Frame};
+use crate::machine::Machine;
+use dl_text::Units;
+use js_code::{ExprCode, ExprNode, ForInitNode, StmtCode, StmtNode};
+use std::alloc::AllocError;
+
+/// Numbers are below 2^53.
+const NUMBERS: u64 = 1 << 53;
+
+/// Whether the machine can begin an expression.
+pub(crate) fn is_built_expression(e: &ExprCode) -> bool
+    ensures { result ≡ is_built_expression (expr e.now) }
+{
+    match e.node() {
+        ExprNode::Num(n) => *n < NUMBERS,
+        ExprNode::Str(_) => true,
+        ExprNode::Bool(_) => true,
+        ExprNode::Null => true,
+        ExprNode::Binary(_, _, _, _) => true,
+        ExprNode::And(_, _) => true,
+        ExprNode::Or(_, _) => true,
+        ExprNode::Comma(_, _) => true,
+        ExprNode::Cond(_, _, _) => true,
+        ExprNode::This => false,
+        ExprNode::Name(_) => false,
+        ExprNode::Array(_) => false,
+        ExprNode::Object(_) => false,
+        ExprNode::Func(_) => false,
+        ExprNode::Dot(_, _) => false,
+        ExprNode::Index(_, _) => false,
+        ExprNode::Call(_, _) => false,
+        ExprNode::New(_, _) => false,
+        ExprNode::Postfix(_, _) => false,
+        ExprNode::Prefix(_, _, _) => false,
+        ExprNode::Assign(_, _, _) => false,
+        ExprNode::Late(_) => false,
+    }
+}
+
+fn is_plain_jump(label: &Option<Units>) -> bool
+    ensures { result ≡ is_plain_jump label.now }
+{
+    label.is_none()
+}
+
+/// Whether the machine can begin a statement.
+pub(crate) fn is_built_statement(s: &StmtCode) -> bool
+    ensures { result ≡ is_built_statement (stmt s.now) }
+{
+    match s.node() {
+        StmtNode::Block(_) => true,
+        StmtNode::Empty => true,
+        StmtNode::Do(_) => true,
+        StmtNode::If(_, _, _) => true,
+        StmtNode::DoWhile(_, _) => true,
+        StmtNode::While(_, _) => true,
+        StmtNode::For(ForInitNode::Nothing, _, _, _) => true,
+        StmtNode::For(ForInitNode::First(_), _, _, _) => true,
+        StmtNode::For(ForInitNode::Vars(_), _, _, _) => false,
+        StmtNode::Continue(label) => is_plain_jump(label),
+        StmtNode::Break(label) => is_plain_jump(label),
+        StmtNode::Var(_) => false,
+        StmtNode::ForIn(_, _, _) => false,
+        StmtNode::Return(_) => false,
+        StmtNode::Switch(_, _) => false,
+        StmtNode::Label(_, _) => false,
+        StmtNode::Throw(_) => false,
+        StmtNode::Try(_, _, _) => false,
+        StmtNode::Declare(_) => false,
+        StmtNode::Used(_) => false,
+    }
+}
+
+impl Machine {
+    /// An expression that is built, whose step was taken.
+    pub(crate) fn begin(&mut self, e: ExprCode) -> Result<Control, AllocError>
+        requires { is_built_expression (expr e) ≡ true }
+        ensures same { IfOk result (λ next. Same (in_expr (expr e)) self.old next self.new) }
+        ensures falls { IfOk result (λ next. Falls self.old next self.new) }
+        ensures rightly { IfOk result (λ next. StopsRightly next self.new) }
+    {
+        match e.node() {
+            ExprNode::Num(n) => self.begin_num(*n),
+            ExprNode::Str(text) => self.begin_text(text),
+            ExprNode::Bool(b) => self.begin_truth(*b),
+            ExprNode::Null => self.begin_null(),
+            ExprNode::Binary(op, _, left, right) => self.begin_binary(*op, left, right),
+            ExprNode::And(left, right) => self.begin_and(left, right),
+            ExprNode::Or(left, right) => self.begin_or(left, right),
+            ExprNode::Comma(left, right) => self.begin_comma(left, right),
+            ExprNode::Cond(test, first, second) => self.begin_cond(test, first, second),
+            ExprNode::This => Ok(Control::Done),
+            ExprNode::Name(_) => Ok(Control::Done),
+            ExprNode::Array(_) => Ok(Control::Done),
+            ExprNode::Object(_) => Ok(Control::Done),
+            ExprNode::Func(_) => Ok(Control::Done),
+            ExprNode::Dot(_, _) => Ok(Control::Done),
+            ExprNode::Index(_, _) => Ok(Control::Done),
+            ExprNode::Call(_, _) => Ok(Control::Done),
+            ExprNode::New(_, _) => Ok(Control::Done),
+            ExprNode::Postfix(_, _) => Ok(Control::Done),
+            ExprNode::Prefix(_, _, _) => Ok(Control::Done),
+            ExprNode::Assign(_, _, _) => Ok(Control::Done),
+            ExprNode::Late(_) => Ok(Control::Done),
+        }
+    }
+
+    /// The frame waits, while something else is done.
+    #[inline]
+    pub(crate) fn wait(&mut self, frame: Frame, next: Control) -> Result<Control, AllocError>
+        ensures { IfOk result (λ c. (c ≡ next)
+            × (self.new ≡ record self.old { frames = frame ∷ self.old.frames })) }
+    {
+        self.frames.push(frame)?;
+        Ok(next)
+    }
+
+    /// A statement that is built, whose step was taken.
+    #[tactic(auto, using(crate::proofs::LoopLaws::begun, crate::proofs::StatementLaws::begun))]
+    pub(crate) fn begin_statement(&mut self, s: StmtCode) -> Result<Control, AllocError>
+        requires { is_built_statement (stmt s) ≡ true }
+        ensures same { IfOk result (λ next. Same (in_stmt (stmt s)) self.old next self.new) }
+        ensures falls { IfOk result (λ next. Falls self.old next self.new) }
+        ensures rightly { IfOk result (λ next. StopsRightly next self.new) }
+    {
+        match s.node() {
+            StmtNode::Block(body) => self.begin_block(body),
+            StmtNode::Empty => Ok(Control::Done),
+            StmtNode::Do(e) => self.begin_do(e),
+            StmtNode::If(test, _, _) => {
+                let test = test.share()?;
+                self.wait(Frame::If(s), Control::Expr(test))
+            }
+            StmtNode::DoWhile(body, _) => {
+                let body = body.share()?;
+                self.wait(Frame::Turn(s), Control::Body(body))
+            }
+            StmtNode::While(_, _) => self.turn(s),
+            StmtNode::For(ForInitNode::Nothing, _, _, _) => self.turn(s),
+            StmtNode::For(ForInitNode::First(first), _, _, _) => {
+                let first = first.share()?;
+                self.wait(Frame::Again(s), Control::Expr(first))
+            }
+            StmtNode::For(ForInitNode::Vars(_), _, _, _) => Ok(Control::Done),
+            StmtNode::Continue(None) => Ok(Control::Continue),
+            StmtNode::Break(None) => Ok(Control::Break),
+            StmtNode::Continue(Some(_)) => Ok(Control::Done),
+            StmtNode::Break(Some(_)) => Ok(Control::Done),
+            StmtNode::Var(_) => Ok(Control::Done),
+            StmtNode::ForIn(_, _, _) => Ok(Control::Done),
+            StmtNode::Return(_) => Ok(Control::Done),
+            StmtNode::Switch(_, _) => Ok(Control::Done),
+            StmtNode::Label(_, _) => Ok(Control::Done),
+            StmtNode::Throw(_) => Ok(Control::Done),
+            StmtNode::Try(_, _, _) => Ok(Control::Done),
+            StmtNode::Declare(_) => Ok(Control::Done),
+            StmtNode::Used(_) => Ok(Control::Done),
+        }
+    }
+}

@@ -1,0 +1,92 @@
+//! What waits for outcomes, and what the machine does next.
+
+use js_code::{ExprCode, StmtCode, StmtCodes};
+use js_tree::BinaryOp;
+use js_values::Reason;
+use std::mem::size_of;
+
+/// What waits for an outcome. It owns the newest values as far as it says so.
+#[derive(Drop)]
+pub enum Frame {
+    /// For the left operand; then the right one is begun.
+    Left(BinaryOp, ExprCode),
+    /// For the right operand. It owns the left one.
+    Right(BinaryOp),
+    And(ExprCode),
+    Or(ExprCode),
+    Comma(ExprCode),
+    /// For the test of `?:`, whose branches these are.
+    Cond(ExprCode, ExprCode),
+    /// For the value of an expression statement.
+    Do,
+    /// For a statement, behind which the list goes on from this number on.
+    Next(StmtCodes, u32),
+    /// For the test of this `if`.
+    If(StmtCode),
+    /// For the test of this loop.
+    Test(StmtCode),
+    /// For the end of a turn of this loop.
+    Turn(StmtCode),
+    /// For an expression in the header of this loop, behind which a turn begins.
+    Again(StmtCode),
+}
+
+// Calls nest by the million.
+const _: () = prove!(size_of::<Frame>() <= 24);
+
+/// What the machine does next. A value that is given or thrown is the newest value.
+#[derive(Drop)]
+pub enum Control {
+    /// It begins an expression, which takes a step.
+    Expr(ExprCode),
+    /// It begins a statement, likewise.
+    Stmt(StmtCode),
+    /// It begins a turn of a loop, of which this is the body.
+    Body(StmtCode),
+    /// An expression gave a value.
+    Give,
+    /// A statement ended.
+    Done,
+    /// A `break` or a `continue` without a label leaves a statement.
+    Break,
+    Continue,
+    Throw,
+    /// The run is over.
+    End(End),
+    /// What comes next is not built yet.
+    Unbuilt(Unbuilt),
+}
+
+/// How a run ended. What was given or thrown is the newest value.
+#[derive(Clone, Copy, Debug)]
+pub enum End {
+    Gave,
+    Done,
+    Broke,
+    Continued,
+    Threw,
+    OutOfSteps,
+    Stopped(Reason),
+}
+
+/// What comes next and is not built yet.
+#[derive(Drop)]
+pub enum Unbuilt {
+    Expr(ExprCode),
+    Stmt(StmtCode),
+    /// The body of a loop, for a turn.
+    Body(StmtCode),
+    /// A frame takes the newest value, which is to be converted.
+    Give,
+    /// The list goes on from this number on with what is no statement.
+    List(StmtCodes, u32),
+    /// A script that declares something.
+    Script(StmtCodes),
+}
+
+/// Why the machine does not go on.
+#[derive(Drop)]
+pub enum Over {
+    End(End),
+    Unbuilt(Unbuilt),
+}

@@ -1,0 +1,140 @@
+//! What a frame does with the value of an expression (ES3 11.5 to 11.14).
+
+ghost use Rattle.std.specs.Prelude.{◌≡◌, ◌∷◌, ◌≤◌, ◌<◌, ◌+◌, ◌*◌, length, IfOk};
+ghost use Rattle.js_machine.specs.NotBuilt.{StopsRightly};
+ghost use Rattle.js_machine.specs.Rest.{Falls, Same, in_value, rest};
+ghost use Rattle.js_machine.specs.Stacks.{below};
+
+use crate::frame::{Control, End, Frame, Unbuilt};
+use crate::machine::Machine;
+use crate::operators::operate;
+use js_code::ExprCode;
+use js_tree::BinaryOp;
+use js_values::to_boolean;
+use std::alloc::AllocError;
+
+impl Machine {
+    #[inline]
+    #[tactic(auto, using(crate::proofs::ValueLaws::v_left))]
+    fn give_left(&mut self, op: BinaryOp, right: ExprCode) -> Result<Control, AllocError>
+        ensures same { IfOk result (λ next.
+            Same (in_value (Frame.Left op right)) self.old next self.new) }
+        ensures falls { IfOk result (λ next. Falls self.old next self.new) }
+        ensures rightly { IfOk result (λ next. StopsRightly next self.new) }
+    {
+        self.frames.push(Frame::Right(op))?;
+        Ok(Control::Expr(right))
+    }
+
+    #[inline]
+    #[tactic(auto, using(crate::proofs::ValueLaws::right_laws))]
+    fn give_right(&mut self, op: BinaryOp) -> Result<Control, AllocError>
+        ensures same { IfOk result (λ next.
+            Same (in_value (Frame.Right op)) self.old next self.new) }
+        ensures falls { IfOk result (λ next. Falls self.old next self.new) }
+        ensures rightly { IfOk result (λ next. StopsRightly next self.new) }
+    {
+        let right = self.values.pop();
+        let left = self.values.pop();
+        match operate(self.alloc, op, &left, &right)? {
+            Some(Ok(v)) => self.answer(v),
+            Some(Err(reason)) => Ok(Control::End(End::Stopped(reason))),
+            None => {
+                self.values.push(left)?;
+                self.values.push(right)?;
+                self.frames.push(Frame::Right(op))?;
+                Ok(Control::Unbuilt(Unbuilt::Give))
+            }
+        }
+    }
+
+    #[inline]
+    #[tactic(auto, using(crate::proofs::ValueLaws::and_laws))]
+    fn give_and(&mut self, right: ExprCode) -> Result<Control, AllocError>
+        ensures same { IfOk result (λ next.
+            Same (in_value (Frame.And right)) self.old next self.new) }
+        ensures falls { IfOk result (λ next. Falls self.old next self.new) }
+        ensures rightly { IfOk result (λ next. StopsRightly next self.new) }
+    {
+        let v = self.values.pop();
+        if to_boolean(&v) {
+            Ok(Control::Expr(right))
+        } else {
+            self.answer(v)
+        }
+    }
+
+    #[inline]
+    #[tactic(auto, using(crate::proofs::ValueLaws::or_laws))]
+    fn give_or(&mut self, right: ExprCode) -> Result<Control, AllocError>
+        ensures same { IfOk result (λ next.
+            Same (in_value (Frame.Or right)) self.old next self.new) }
+        ensures falls { IfOk result (λ next. Falls self.old next self.new) }
+        ensures rightly { IfOk result (λ next. StopsRightly next self.new) }
+    {
+        let v = self.values.pop();
+        if to_boolean(&v) {
+            self.answer(v)
+        } else {
+            Ok(Control::Expr(right))
+        }
+    }
+
+    #[inline]
+    #[tactic(auto, using(crate::proofs::ValueLaws::cond_laws))]
+    fn give_cond(&mut self, first: ExprCode, second: ExprCode) -> Result<Control, AllocError>
+        ensures same { IfOk result (λ next.
+            Same (in_value (Frame.Cond first second)) self.old next self.new) }
+        ensures falls { IfOk result (λ next. Falls self.old next self.new) }
+        ensures rightly { IfOk result (λ next. StopsRightly next self.new) }
+    {
+        let v = self.values.pop();
+        if to_boolean(&v) {
+            Ok(Control::Expr(first))
+        } else {
+            Ok(Control::Expr(second))
+        }
+    }
+
+    /// A value is dropped, and something else is begun.
+    #[inline]
+    fn drop_value(&mut self, next: Control) -> Result<Control, AllocError>
+        ensures { IfOk result (λ c. (c ≡ next)
+            × (self.new ≡ record self.old { values = below self.old.values })) }
+    {
+        let _v = self.values.pop();
+        Ok(next)
+    }
+
+    /// A frame takes the newest value.
+    #[tactic(auto, using(crate::proofs::LoopLaws::loop_values, crate::proofs::ValueLaws::value_laws))]
+    pub(crate) fn give(&mut self, frame: Frame) -> Result<Control, AllocError>
+        ensures same { IfOk result (λ next. Same (in_value frame) self.old next self.new) }
+        ensures falls { IfOk result (λ next. Falls self.old next self.new) }
+        ensures rightly { IfOk result (λ next. StopsRightly next self.new) }
+    {
+        match frame {
+            Frame::Left(op, right) => self.give_left(op, right),
+            Frame::Right(op) => self.give_right(op),
+            Frame::And(right) => self.give_and(right),
+            Frame::Or(right) => self.give_or(right),
+            Frame::Comma(right) => self.drop_value(Control::Expr(right)),
+            Frame::Cond(first, second) => self.give_cond(first, second),
+            Frame::Do => self.drop_value(Control::Done),
+            Frame::Next(list, i) => {
+                let _v = self.values.pop();
+                self.next_statement(list, i)
+            }
+            Frame::If(s) => self.give_if(s),
+            Frame::Test(s) => self.give_test(s),
+            Frame::Turn(s) => {
+                let _v = self.values.pop();
+                self.update(s)
+            }
+            Frame::Again(s) => {
+                let _v = self.values.pop();
+                self.turn(s)
+            }
+        }
+    }
+}
