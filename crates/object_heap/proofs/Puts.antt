@@ -14,7 +14,7 @@ use Rattle.object_heap.specs.Names.{Name, is_same_name, length_name, index_of}
 use Rattle.object_heap.specs.Arrays.{no_attributes, put_value, length_value, put_length, grown}
 use Rattle.object_heap.specs.Changes.{holding, put_property}
 use Rattle.object_heap.proofs.Tables.{same_name}
-use Rattle.object_heap.specs.Objects.{Slot, Holds, Shares, Property, Object, Heap, own_in, own_of, properties_in, prototype_of, with_properties, chain_of, chain_on}
+use Rattle.object_heap.specs.Objects.{Slot, Holds, Shares, Property, Object, Heap, own_in, own_of, properties_in, class_of, prototype_of, with_properties, chain_of, chain_on}
 use Rattle.object_heap.specs.Get.{can_put, first_or, met, met_along, is_writable}
 use Rattle.object_heap.specs.Put.{Put, Done, Ignored, Shared, BadLength, put, put_by, put_if, put_own, done_or_bad}
 use Rattle.object_heap.specs.Laws.{PrototypesComeBefore}
@@ -37,12 +37,21 @@ lengths_set (x ∷ xs) zero new (suc q) h g = g
 lengths_set (x ∷ xs) (suc o) new zero h g = g
 lengths_set (x ∷ xs) (suc o) new (suc q) h g = lengths_set xs o new q h g
 
+class_kept : (heap : Heap) (o q : ℕ) (object : Object) (ps : List Property) → slice_get heap o ≡ Some object → class_of (slice_set heap o (with_properties object ps)) q ≡ class_of heap q
+class_kept [] o q object ps at = refl
+class_kept (x ∷ xs) zero zero object ps at = let f : x ≡ object = cc in sym (ap (λ y. Some y.class) f)
+class_kept (x ∷ xs) zero (suc q) object ps at = refl
+class_kept (x ∷ xs) (suc o) zero object ps at = refl
+class_kept (x ∷ xs) (suc o) (suc q) object ps at = class_kept xs o q object ps at
+
 pub heap_changed : (heap : Heap) (o : ℕ) (object : Object) (ps : List Property) (shared : Name) → slice_get heap o ≡ Some object → HasLength object.class ps → IsHeap heap shared → IsHeap (slice_set heap o (with_properties object ps)) shared
 heap_changed heap o object ps shared at h is = record {
   prototypes_before = change_keeps heap o object ps at is.prototypes_before;
   arrays_have_length = λ q. lengths_set heap o (with_properties object ps) q h (is.arrays_have_length q);
   numbered = rw (length_set heap o (with_properties object ps)) is.numbered;
   at_start = rw (length_set heap o (with_properties object ps)) is.at_start;
+  global_plain = class_kept heap o _ object ps at ∙ is.global_plain;
+  host_plain = class_kept heap o _ object ps at ∙ is.host_plain;
   named = is.named;
 }
 

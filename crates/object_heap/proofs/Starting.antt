@@ -61,5 +61,7 @@ is_heap_at_first shared named = record {
   arrays_have_length = lengths_at_first;
   numbered = lit≤ tt;
   at_start = lit≤ tt;
+  global_plain = refl;
+  host_plain = refl;
   named = named;
 }

@@ -4,7 +4,9 @@ use Rattle.std.specs.Prelude.{Option, Some, None}
 use Rattle.object_heap.specs.declared.object.Class.{Class}
 use Rattle.object_heap.specs.declared.object.Class.TheVariants as class
 use Rattle.object_heap.specs.Names.{Name, is_same_name, length_name}
-use Rattle.object_heap.specs.Objects.{Slot, Holds, Shares, Property, Object, Heap}
+use Rattle.object_heap.specs.declared.built_in.BuiltIn.TheVariants as built
+use Rattle.object_heap.specs.BuiltIns.{number_of}
+use Rattle.object_heap.specs.Objects.{Slot, Holds, Shares, Property, Object, Heap, class_of}
 use Rattle.object_heap.specs.Laws.{PrototypesComeBefore}
 
 abbrev pub holds_value : Slot → Bool
@@ -50,5 +52,7 @@ pub record IsHeap (heap : Heap) (name : Name) : Type 0 where
   pub numbered : length heap ≤ most_objects
   -- the objects of the start are there
   pub at_start : objects_at_start ≤ length heap
+  pub global_plain : class_of heap (number_of built.Global) ≡ Some class.Plain
+  pub host_plain : class_of heap (number_of built.Host) ≡ Some class.Plain
   -- the name that arrays share
   pub named : name ≡ length_name

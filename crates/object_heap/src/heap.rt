@@ -2,6 +2,7 @@ ghost use Rattle.std.specs.Prelude.{◌≡◌, ◌<◌, length, map, nat_lt, sli
 ghost use Rattle.std.specs.Option.{option_copied, option_map};
 ghost use Rattle.object_heap.specs.Answers.{IsAnswer, IsPlainName, IsUnshared, number};
 ghost use Rattle.object_heap.specs.Answers.{slot_shown, told, visit_shown};
+ghost use Rattle.object_heap.specs.declared.built_in.BuiltIn.TheVariants as built_in;
 ghost use Rattle.object_heap.specs.declared.object.Class.TheVariants as class;
 ghost use Rattle.object_heap.specs.BuiltIns as built;
 ghost use Rattle.object_heap.specs.Changes as changes;
@@ -296,10 +297,15 @@ impl Heap {
         visited::visits(self.alloc, self.objects.as_slice(), o.0 as u32)
     }
 
-    /// The number of one of the objects that are there at the start.
+    /// The number of one of the objects that are there at the start. The global object and
+    /// `host` are plain.
     pub fn built_in(&self, b: BuiltIn) -> ObjectId
         ensures number { result.0 ≡ built.number_of b }
         ensures there { built.number_of b < length self.now }
+        ensures global { objects.class_of self.now (built.number_of built_in.Global)
+            ≡ Some class.Plain }
+        ensures host { objects.class_of self.now (built.number_of built_in.Host)
+            ≡ Some class.Plain }
     {
         // Reading the heap tells the check what holds of it.
         let _objects = &self.objects;
