@@ -40,6 +40,12 @@ module _ (n : ℕ) (fs : List Frame) (vs : List Value) (heap : Heap) (hosts : Li
   done_passes (frame.Test s) h = refl
   done_passes (frame.Turn s) h = cc
   done_passes (frame.Again s) h = refl
+  done_passes (frame.Store t) h = refl
+  done_passes (frame.StoreWith op t) h = refl
+  done_passes (frame.Unary op) h = refl
+  done_passes frame.Type h = refl
+  done_passes (frame.Var i items) h = refl
+  done_passes (frame.ForVar i items s) h = refl
 
   pub break_passes : (f : Frame) → is_turn f ≡ false → in_break f n fs vs heap hosts beats steps out ≡ rest control.Break n fs (under f vs) heap hosts beats steps out
   unfolding in_break rest
@@ -55,6 +61,12 @@ module _ (n : ℕ) (fs : List Frame) (vs : List Value) (heap : Heap) (hosts : Li
   break_passes (frame.Test s) h = refl
   break_passes (frame.Turn s) h = cc
   break_passes (frame.Again s) h = refl
+  break_passes (frame.Store t) h = refl
+  break_passes (frame.StoreWith op t) h = refl
+  break_passes (frame.Unary op) h = refl
+  break_passes frame.Type h = refl
+  break_passes (frame.Var i items) h = refl
+  break_passes (frame.ForVar i items s) h = refl
 
   pub continue_passes : (f : Frame) → is_turn f ≡ false → in_continue f n fs vs heap hosts beats steps out ≡ rest control.Continue n fs (under f vs) heap hosts beats steps out
   unfolding in_continue rest
@@ -70,6 +82,12 @@ module _ (n : ℕ) (fs : List Frame) (vs : List Value) (heap : Heap) (hosts : Li
   continue_passes (frame.Test s) h = refl
   continue_passes (frame.Turn s) h = cc
   continue_passes (frame.Again s) h = refl
+  continue_passes (frame.Store t) h = refl
+  continue_passes (frame.StoreWith op t) h = refl
+  continue_passes (frame.Unary op) h = refl
+  continue_passes frame.Type h = refl
+  continue_passes (frame.Var i items) h = refl
+  continue_passes (frame.ForVar i items s) h = refl
 
   pub throw_passes : (f : Frame) → in_throw f n fs vs heap hosts beats steps out ≡ rest control.Throw n fs (top vs ∷ under f (below vs)) heap hosts beats steps out
   unfolding in_throw rest
@@ -85,6 +103,12 @@ module _ (n : ℕ) (fs : List Frame) (vs : List Value) (heap : Heap) (hosts : Li
   throw_passes (frame.Test s) = refl
   throw_passes (frame.Turn s) = refl
   throw_passes (frame.Again s) = refl
+  throw_passes (frame.Store t) = refl
+  throw_passes (frame.StoreWith op t) = refl
+  throw_passes (frame.Unary op) = refl
+  throw_passes frame.Type = refl
+  throw_passes (frame.Var i items) = refl
+  throw_passes (frame.ForVar i items s) = refl
 
   -- ---- the newest frame, and the last one
 

@@ -13,5 +13,11 @@ pub mod FlowLaws
 pub mod ValueLaws
 pub mod fitting
 pub mod StepLaws
+pub mod NameLaws
+pub mod ThrowLaws
+pub mod AssignmentLaws
+pub mod UnaryLaws
+pub mod HostLaws
+pub mod VariableLaws
 pub mod ScriptLaws
 pub mod HaltLaws

@@ -27,7 +27,7 @@ pub data GoesOn : Program → (Value → Program) → Operated → Type 0 where
 
 -- ---- numbers
 
-number_goes : (v : Value) (k : Num → Program) (m : Value → Program) (f : Num → Operated)
+pub number_goes : (v : Value) (k : Num → Program) (m : Value → Program) (f : Num → Operated)
     → ((n : Num) → GoesOn (k n) m (f n)) → GoesOn (to_number v k) m (with_number (number_of v) f)
 number_goes value.Undefined k m f h = h _
 number_goes value.Null k m f h = h _

@@ -1,6 +1,6 @@
 -- What is left of a run where a script is entered, and how it ends.
-use Rattle.std.proofs.Common.{◌≡◌, ℕ, ◌+◌, ◌-◌, List, [], ◌∷◌, refl, ap, ◌∙◌}
-use Rattle.std.specs.Prelude.{false, ◌||◌}
+use Rattle.std.proofs.Common.{◌≡◌, ℕ, ◌+◌, ◌-◌, List, [], ◌∷◌, refl, sym, ap, ◌∙◌}
+use Rattle.std.specs.Prelude.{false}
 use Rattle.js_values.specs.declared.value.Value.{Value}
 use Rattle.object_heap.specs.Objects.{Heap}
 use Rattle.js_tree.specs.declared.tree.Stmt.{Stmt}
@@ -14,37 +14,32 @@ use Rattle.js_machine.specs.declared.frame.End.TheVariants as end
 use Rattle.js_machine.specs.declared.frame.Unbuilt.TheVariants as unbuilt
 use Rattle.js_machine.specs.declared.hosts.HostCall.{HostCall}
 use Rattle.js_machine.specs.Entries.{define_functions, define_variables, enter_script}
-use Rattle.js_machine.specs.NotBuilt.{declares, has_functions, has_some}
+use Rattle.js_machine.specs.Globals.{with_variables}
+use Rattle.js_machine.specs.NotBuilt.{has_functions}
 use Rattle.js_machine.specs.Page.{script_env}
 use Rattle.js_machine.specs.Statements.{statements}
-use Rattle.js_machine.specs.Rest.{Outside, rest, starting, in_list}
+use Rattle.js_machine.specs.Rest.{Outside, rest, running, starting, in_list}
 use Rattle.js_machine.specs.Halts.{in_script}
 use Rattle.js_machine.proofs.StepLaws.{none, step}
+use Rattle.js_machine.proofs.VariableLaws.{declares}
 
--- a script that declares nothing
-no_functions : (codes : List Func) (names : List Name) → has_functions codes || has_some names ≡ false → codes ≡ []
-no_functions [] names d = refl
-no_functions (f ∷ codes) names d = cc
-
-no_variables : (codes : List Func) (names : List Name) → has_functions codes || has_some names ≡ false → names ≡ []
-no_variables codes [] d = refl
-no_variables [] (name ∷ names) d = cc
-no_variables (f ∷ codes) (name ∷ names) d = cc
+no_functions : (codes : List Func) → has_functions codes ≡ false → codes ≡ []
+no_functions [] d = refl
+no_functions (f ∷ codes) d = cc
 
 module _ (n : ℕ) (fs : List Frame) (vs : List Value) (heap : Heap) (hosts : List HostCall) (beats steps : ℕ) (out : Outside) where
   pub script_none : (body : List Stmt) → n ≡ 0 → in_script (view.body body) n fs vs heap hosts beats steps out ≡ rest (control.End end.OutOfSteps) n fs vs heap hosts beats steps out
   unfolding in_script
   script_none body h = none n fs vs heap hosts beats steps out (enter_script (view.body body) script_env) h
 
-  pub script_step : (body : List Stmt) → declares (view.body body) ≡ false → (n ≡ 0 → ⊥)
-      → in_script (view.body body) n fs vs heap hosts beats steps out ≡ in_list body 0 (n - 1) fs vs heap hosts beats (steps + 1) out
+  pub script_step : (body : List Stmt) (names : List Name) (after : Heap) → has_functions (functions_of (view.body body)) ≡ false → (n ≡ 0 → ⊥) → names ≡ vars_in_all (view.body body) → after ≡ with_variables names heap
+      → in_script (view.body body) n fs vs heap hosts beats steps out ≡ in_list body 0 (n - 1) fs vs after hosts beats (steps + 1) out
   unfolding in_script in_list
-  script_step body d h =
-      let f = no_functions (functions_of (view.body body)) (vars_in_all (view.body body)) d in
-      let v = no_variables (functions_of (view.body body)) (vars_in_all (view.body body)) d in
-      ap (λ codes. starting (define_functions codes script_env.chain (define_variables (vars_in_all (view.body body)) (statements (view.body body) script_env))) n fs vs heap hosts beats steps out) f
-      ∙ (ap (λ names. starting (define_variables names (statements (view.body body) script_env)) n fs vs heap hosts beats steps out) v
-      ∙ step n fs vs heap hosts beats steps out (statements (view.body body) script_env) h)
+  script_step body names after d h e f =
+      ap (λ codes. starting (define_functions codes script_env.chain (define_variables (vars_in_all (view.body body)) (statements (view.body body) script_env))) n fs vs heap hosts beats steps out) (no_functions (functions_of (view.body body)) d)
+      ∙ (step n fs vs heap hosts beats steps out (define_variables (vars_in_all (view.body body)) (statements (view.body body) script_env)) h
+      ∙ (declares (n - 1) fs vs hosts beats (steps + 1) out (statements (view.body body) script_env) (vars_in_all (view.body body)) heap
+      ∙ sym (ap (λ after. running (statements (view.body body) script_env) (n - 1) fs vs after hosts beats (steps + 1) out) (f ∙ ap (λ names. with_variables names heap) e))))
 
   pub script_unbuilt : (body : List Stmt) → in_script (view.body body) n fs vs heap hosts beats steps out ≡ rest (control.Unbuilt (unbuilt.Script body)) n fs vs heap hosts beats steps out
   unfolding in_script rest

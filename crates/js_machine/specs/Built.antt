@@ -1,9 +1,12 @@
 -- What of the language the machine runs so far.
-use Rattle.std.specs.Prelude.{◌^◌, nat_lt, Bool, true, false, Option, Some, None}
+use Rattle.std.specs.Prelude.{◌^◌, nat_lt, Bool, true, false, not, Option, Some, None, is_some}
 use Rattle.object_heap.specs.Names.{Name}
+use Rattle.js_tree.specs.declared.tree.PrefixOp.{PrefixOp}
+use Rattle.js_tree.specs.declared.tree.PrefixOp.TheVariants as prefix
 use Rattle.js_tree.specs.Tree.{Expr}
-use Rattle.js_tree.specs.Tree.{Stmt, ForInit, Nothing, Vars, First}
+use Rattle.js_tree.specs.Tree.{Stmt}
 use Rattle.js_tree.specs.Tree as tree
+use Rattle.js_machine.specs.Globals.{name_in}
 
 -- ---- statements
 
@@ -15,11 +18,36 @@ is_begun _ = true
 
 -- ---- what is built
 
+abbrev pub is_name : Expr → Bool
+is_name e = is_some (name_in e)
+
+-- a dot or an index
+abbrev pub is_member : Expr → Bool
+is_member (tree.Dot object name) = true
+is_member (tree.Index object key) = true
+is_member _ = false
+
+-- an operator on a value, and on a name `typeof`, `++` and `--`
+abbrev pub is_built_prefix : PrefixOp → Expr → Bool
+is_built_prefix prefix.Delete operand = false
+is_built_prefix prefix.Void operand = true
+is_built_prefix prefix.TypeOf operand = not (is_member operand)
+is_built_prefix prefix.Increment operand = is_name operand
+is_built_prefix prefix.Decrement operand = is_name operand
+is_built_prefix prefix.Plus operand = true
+is_built_prefix prefix.Minus operand = true
+is_built_prefix prefix.BitNot operand = true
+is_built_prefix prefix.Not operand = true
+
 abbrev pub is_built_expression : Expr → Bool
 is_built_expression (tree.Num n) = nat_lt n (2 ^ 53)
 is_built_expression (tree.Str text) = true
 is_built_expression (tree.Truth b) = true
 is_built_expression tree.Null = true
+is_built_expression (tree.Ident name) = true
+is_built_expression (tree.Postfix target op) = is_name target
+is_built_expression (tree.Prefix op operand) = is_built_prefix op operand
+is_built_expression (tree.Assign op target right) = is_name target
 is_built_expression (tree.Binary op left right) = true
 is_built_expression (tree.And left right) = true
 is_built_expression (tree.Or left right) = true
@@ -31,11 +59,6 @@ abbrev pub is_plain_jump : Option Name → Bool
 is_plain_jump None = true
 is_plain_jump (Some label) = false
 
-abbrev pub is_built_first : ForInit → Bool
-is_built_first Nothing = true
-is_built_first (Vars items) = false
-is_built_first (First e) = true
-
 abbrev pub is_built_statement : Stmt → Bool
 is_built_statement (tree.Block body) = true
 is_built_statement tree.Empty = true
@@ -43,7 +66,8 @@ is_built_statement (tree.Do e) = true
 is_built_statement (tree.If test first second) = true
 is_built_statement (tree.DoWhile body test) = true
 is_built_statement (tree.While test body) = true
-is_built_statement (tree.For first test update body) = is_built_first first
+is_built_statement (tree.Variables items) = true
+is_built_statement (tree.For first test update body) = true
 is_built_statement (tree.Continue label) = is_plain_jump label
 is_built_statement (tree.Break label) = is_plain_jump label
 is_built_statement _ = false

@@ -23,6 +23,8 @@ pub mod Logs
 pub mod Laws
 pub mod Operated
 pub mod Stacks
+pub mod Globals
+pub mod Skipped
 pub mod Built
 pub mod NotBuilt
 pub mod Rest

@@ -1,6 +1,7 @@
 -- What is left of a run, by the machine's control, its frames and its values.
-use Rattle.std.specs.Prelude.{◌≡◌, ◌≤◌, ℕ, ◌+◌, ◌*◌, if◌then◌else◌}
+use Rattle.std.specs.Prelude.{◌≡◌, ◌≤◌, ℕ, ◌+◌, ◌*◌, Bool, if◌then◌else◌}
 use Rattle.std.specs.Prelude.{List, [], ◌∷◌, length, map, Option, Some, None}
+use Rattle.js_values.specs.declared.number.Num.{Num}
 use Rattle.js_values.specs.declared.value.Value.{Value}
 use Rattle.js_values.specs.Shown.{Passed}
 use Rattle.js_values.specs.Values.{truth_of}
@@ -9,12 +10,13 @@ use Rattle.exceptions_core.specs.declared.completion.Frame.TheVariants as frames
 use Rattle.exceptions_core.specs.declared.completion.Landing.{Landing}
 use Rattle.object_heap.specs.Names.{Name}
 use Rattle.object_heap.specs.Objects.{Heap}
-use Rattle.scope_arena.specs.Scopes.{entered}
+use Rattle.js_tree.specs.declared.tree.PostfixOp.{PostfixOp}
 use Rattle.js_tree.specs.declared.tree.Stmt as declared_stmt
+use Rattle.js_tree.specs.declared.tree.VarItem.{VarItem}
 use Rattle.js_tree.specs.Tree.{Expr, Stmt}
 use Rattle.js_tree.specs.Plain.{expr, stmt}
 use Rattle.js_tree.specs.Plain as view
-use Rattle.js_code.specs.Cursors.{stmts_from}
+use Rattle.js_code.specs.Cursors.{stmts_from, var_items_from}
 use Rattle.js_code.specs.Projections.{IfTree, LoopTree, if_parts, loop_parts}
 use Rattle.js_machine.specs.declared.hosts.HostCall.{HostCall}
 use Rattle.js_machine.specs.declared.machine.Machine.{Machine}
@@ -36,17 +38,16 @@ use Rattle.js_machine.specs.Expressions.{expression}
 use Rattle.js_machine.specs.Loops.{on_test, next_turn, updated}
 use Rattle.js_machine.specs.Entries.{enter_script}
 use Rattle.js_machine.specs.Programs.{program}
-use Rattle.js_machine.specs.State.{State, Body, OfHost}
+use Rattle.js_machine.specs.State.{State}
+use Rattle.js_machine.specs.Variables.{variables}
+use Rattle.js_machine.specs.Globals.{changed_from, changing, host_body, initialised, name_in}
+use Rattle.js_machine.specs.Globals.{no_names, stored, type_told, unary}
 use Rattle.js_machine.specs.Run.{World, Trace, Stack, pop, due, run}
 use Rattle.js_machine.specs.Run as trace
 use Rattle.js_machine.specs.Page.{script_env}
 use Rattle.js_machine.specs.Stacks.{top, below}
 
--- ---- parts of the state and of nodes
-
--- the body of a host call
-abbrev pub host_body : HostCall → ℕ × Body
-host_body call = (call.object, OfHost call.name)
+-- ---- parts of nodes
 
 -- a loop without labels
 abbrev pub loop_with : LoopTree → Loop
@@ -63,7 +64,7 @@ abbrev pub state_of : Heap → List HostCall → ℕ → ℕ → Outside → Sta
 state_of heap hosts beats steps out = record {
   heap = heap;
   bodies = map host_body hosts;
-  scopes = entered [] None [];
+  scopes = no_names;
   listeners = [];
   called = out.called;
   passed = out.passed;
@@ -115,6 +116,14 @@ waits (frame.If s) vs = on_value (branched (if_parts (stmt s)))
 waits (frame.Test s) vs = on_value (tested (loop_parts (stmt s)))
 waits (frame.Turn s) vs = at_frame (frames.Loop []) (next_of (loop_parts (stmt s)))
 waits (frame.Again s) vs = on_value (λ v. turning (loop_parts (stmt s)))
+waits (frame.Store target) vs = on_value (λ v. stored (name_in (expr target)) v v)
+waits (frame.StoreWith op target) vs =
+    on_value (λ w. operate op (top vs) w (λ r. stored (name_in (expr target)) r r))
+waits (frame.Unary op) vs = on_value (unary op)
+waits frame.Type vs = on_value type_told
+waits (frame.Var i items) vs = on_value (initialised (var_items_from items i) done)
+waits (frame.ForVar i items s) vs =
+    on_value (initialised (var_items_from items i) (turning (loop_parts (stmt s))))
 
 -- the values below those that the frame owns
 abbrev pub under : Frame → List Value → List Value
@@ -130,6 +139,12 @@ under (frame.If s) vs = vs
 under (frame.Test s) vs = vs
 under (frame.Turn s) vs = vs
 under (frame.Again s) vs = vs
+under (frame.Store target) vs = vs
+under (frame.StoreWith op target) vs = below vs
+under (frame.Unary op) vs = vs
+under frame.Type vs = vs
+under (frame.Var i items) vs = vs
+under (frame.ForVar i items s) vs = vs
 
 abbrev pub stack : List Frame → List Value → Stack
 stack [] vs = []
@@ -192,6 +207,8 @@ rest (control.Unbuilt (unbuilt.Body s)) = starting (program (ATurn (stmt s)) scr
 rest (control.Unbuilt unbuilt.Give) = popped_with Gives
 rest (control.Unbuilt (unbuilt.List ss i)) = running (statements (stmts_from ss i) script_env)
 rest (control.Unbuilt (unbuilt.Script ss)) = starting (enter_script (view.body ss) script_env)
+rest (control.Unbuilt (unbuilt.Change op gives_new target)) =
+    running (changing op gives_new (name_in (expr target)))
 
 -- ---- inside a node whose step was taken
 
@@ -212,6 +229,29 @@ in_turn s = running (turning (loop_parts (stmt s)))
 
 unfoldable pub in_update : declared_stmt.Stmt → Left
 in_update s = running (updating (loop_parts (stmt s)))
+
+-- ---- behind the step of a target, and where a name is written or declared
+
+unfoldable pub in_change : PostfixOp → Bool → Option Name → Left
+in_change op gives_new name = running (changing op gives_new name)
+
+unfoldable pub in_changed : PostfixOp → Bool → Option Name → Num → Left
+in_changed op gives_new name before = running (changed_from op gives_new name before)
+
+unfoldable pub in_store : Option Name → Value → Value → Left
+in_store name v w = running (stored name v w)
+
+unfoldable pub in_type : Value → Left
+in_type v = running (type_told v)
+
+-- the items of a `var` from one on
+unfoldable pub in_variables : List VarItem → ℕ → Left
+in_variables items i = running (variables (var_items_from items i) script_env done)
+
+-- the same in the header of a loop
+unfoldable pub in_header : List VarItem → ℕ → declared_stmt.Stmt → Left
+in_header items i s =
+    running (variables (var_items_from items i) script_env (turning (loop_parts (stmt s))))
 
 -- ---- inside a frame
 

@@ -4,17 +4,67 @@ ghost use Rattle.std.specs.Prelude.{◌≡◌, ◌∷◌, ◌≤◌, ◌<◌, �
 ghost use Rattle.std.specs.Prelude.{length, true, IfOk};
 ghost use Rattle.js_tree.specs.Plain.{expr, stmt};
 ghost use Rattle.js_machine.specs.NotBuilt.{StopsRightly};
-ghost use Rattle.js_machine.specs.Built.{is_built_expression, is_built_statement, is_plain_jump};
+ghost use Rattle.js_machine.specs.Built.{is_built_expression, is_built_prefix};
+ghost use Rattle.js_machine.specs.Built.{is_built_statement, is_member, is_plain_jump};
 ghost use Rattle.js_machine.specs.Rest.{Falls, Same, in_expr, in_stmt, rest};
 
 use crate::frame::{Control, Frame};
 use crate::machine::Machine;
+use crate::names::name_of;
 use dl_text::Units;
 use js_code::{ExprCode, ExprNode, ForInitNode, StmtCode, StmtNode};
+use js_tree::PrefixOp;
 use std::alloc::AllocError;
 
 /// Numbers are below 2^53.
 const NUMBERS: u64 = 1 << 53;
+
+/// Whether the machine can begin an operator with this operand.
+fn is_built_prefix(op: PrefixOp, operand: &ExprCode) -> bool
+    ensures { result ≡ is_built_prefix op (expr operand.now) }
+{
+    match op {
+        PrefixOp::Delete => false,
+        PrefixOp::TypeOf => !is_member(operand),
+        PrefixOp::Increment => name_of(operand).is_some(),
+        PrefixOp::Decrement => name_of(operand).is_some(),
+        PrefixOp::Void => true,
+        PrefixOp::Plus => true,
+        PrefixOp::Minus => true,
+        PrefixOp::BitNot => true,
+        PrefixOp::Not => true,
+    }
+}
+
+/// Whether an expression is a dot or an index.
+fn is_member(e: &ExprCode) -> bool
+    ensures { result ≡ is_member (expr e.now) }
+{
+    match e.node() {
+        ExprNode::Dot(_, _) => true,
+        ExprNode::Index(_, _) => true,
+        ExprNode::Num(_) => false,
+        ExprNode::Str(_) => false,
+        ExprNode::Bool(_) => false,
+        ExprNode::Null => false,
+        ExprNode::This => false,
+        ExprNode::Name(_) => false,
+        ExprNode::Array(_) => false,
+        ExprNode::Object(_) => false,
+        ExprNode::Func(_) => false,
+        ExprNode::Call(_, _) => false,
+        ExprNode::New(_, _) => false,
+        ExprNode::Postfix(_, _) => false,
+        ExprNode::Prefix(_, _, _) => false,
+        ExprNode::Binary(_, _, _, _) => false,
+        ExprNode::And(_, _) => false,
+        ExprNode::Or(_, _) => false,
+        ExprNode::Comma(_, _) => false,
+        ExprNode::Cond(_, _, _) => false,
+        ExprNode::Assign(_, _, _) => false,
+        ExprNode::Late(_) => false,
+    }
+}
 
 /// Whether the machine can begin an expression.
 pub(crate) fn is_built_expression(e: &ExprCode) -> bool
@@ -31,7 +81,7 @@ pub(crate) fn is_built_expression(e: &ExprCode) -> bool
         ExprNode::Comma(_, _) => true,
         ExprNode::Cond(_, _, _) => true,
         ExprNode::This => false,
-        ExprNode::Name(_) => false,
+        ExprNode::Name(_) => true,
         ExprNode::Array(_) => false,
         ExprNode::Object(_) => false,
         ExprNode::Func(_) => false,
@@ -39,9 +89,9 @@ pub(crate) fn is_built_expression(e: &ExprCode) -> bool
         ExprNode::Index(_, _) => false,
         ExprNode::Call(_, _) => false,
         ExprNode::New(_, _) => false,
-        ExprNode::Postfix(_, _) => false,
-        ExprNode::Prefix(_, _, _) => false,
-        ExprNode::Assign(_, _, _) => false,
+        ExprNode::Postfix(target, _) => name_of(target).is_some(),
+        ExprNode::Prefix(op, _, operand) => is_built_prefix(*op, operand),
+        ExprNode::Assign(_, target, _) => name_of(target).is_some(),
         ExprNode::Late(_) => false,
     }
 }
@@ -58,17 +108,15 @@ pub(crate) fn is_built_statement(s: &StmtCode) -> bool
 {
     match s.node() {
         StmtNode::Block(_) => true,
+        StmtNode::Var(_) => true,
         StmtNode::Empty => true,
         StmtNode::Do(_) => true,
         StmtNode::If(_, _, _) => true,
         StmtNode::DoWhile(_, _) => true,
         StmtNode::While(_, _) => true,
-        StmtNode::For(ForInitNode::Nothing, _, _, _) => true,
-        StmtNode::For(ForInitNode::First(_), _, _, _) => true,
-        StmtNode::For(ForInitNode::Vars(_), _, _, _) => false,
+        StmtNode::For(_, _, _, _) => true,
         StmtNode::Continue(label) => is_plain_jump(label),
         StmtNode::Break(label) => is_plain_jump(label),
-        StmtNode::Var(_) => false,
         StmtNode::ForIn(_, _, _) => false,
         StmtNode::Return(_) => false,
         StmtNode::Switch(_, _) => false,
@@ -93,13 +141,17 @@ impl Machine {
             ExprNode::Str(text) => self.begin_text(text),
             ExprNode::Bool(b) => self.begin_truth(*b),
             ExprNode::Null => self.begin_null(),
+            ExprNode::Name(name) => self.begin_name(name),
+            ExprNode::Postfix(target, op) => self.begin_postfix(*op, target),
+            ExprNode::Prefix(op, _, operand) => self.begin_prefix(*op, operand),
+            ExprNode::Assign(None, target, right) => self.begin_assign(target, right),
+            ExprNode::Assign(Some(op), target, right) => self.begin_assign_with(*op, target, right),
             ExprNode::Binary(op, _, left, right) => self.begin_binary(*op, left, right),
             ExprNode::And(left, right) => self.begin_and(left, right),
             ExprNode::Or(left, right) => self.begin_or(left, right),
             ExprNode::Comma(left, right) => self.begin_comma(left, right),
             ExprNode::Cond(test, first, second) => self.begin_cond(test, first, second),
             ExprNode::This => Ok(Control::Done),
-            ExprNode::Name(_) => Ok(Control::Done),
             ExprNode::Array(_) => Ok(Control::Done),
             ExprNode::Object(_) => Ok(Control::Done),
             ExprNode::Func(_) => Ok(Control::Done),
@@ -107,9 +159,6 @@ impl Machine {
             ExprNode::Index(_, _) => Ok(Control::Done),
             ExprNode::Call(_, _) => Ok(Control::Done),
             ExprNode::New(_, _) => Ok(Control::Done),
-            ExprNode::Postfix(_, _) => Ok(Control::Done),
-            ExprNode::Prefix(_, _, _) => Ok(Control::Done),
-            ExprNode::Assign(_, _, _) => Ok(Control::Done),
             ExprNode::Late(_) => Ok(Control::Done),
         }
     }
@@ -125,7 +174,7 @@ impl Machine {
     }
 
     /// A statement that is built, whose step was taken.
-    #[tactic(auto, using(crate::proofs::LoopLaws::begun, crate::proofs::StatementLaws::begun))]
+    #[tactic(auto, using(crate::proofs::VariableLaws::variables_begun, crate::proofs::LoopLaws::begun, crate::proofs::StatementLaws::begun))]
     pub(crate) fn begin_statement(&mut self, s: StmtCode) -> Result<Control, AllocError>
         requires { is_built_statement (stmt s) ≡ true }
         ensures same { IfOk result (λ next. Same (in_stmt (stmt s)) self.old next self.new) }
@@ -134,6 +183,10 @@ impl Machine {
     {
         match s.node() {
             StmtNode::Block(body) => self.begin_block(body),
+            StmtNode::Var(items) => {
+                let items = items.share()?;
+                self.next_variable(items, 0)
+            }
             StmtNode::Empty => Ok(Control::Done),
             StmtNode::Do(e) => self.begin_do(e),
             StmtNode::If(test, _, _) => {
@@ -150,12 +203,14 @@ impl Machine {
                 let first = first.share()?;
                 self.wait(Frame::Again(s), Control::Expr(first))
             }
-            StmtNode::For(ForInitNode::Vars(_), _, _, _) => Ok(Control::Done),
+            StmtNode::For(ForInitNode::Vars(items), _, _, _) => {
+                let items = items.share()?;
+                self.next_in_header(items, 0, s)
+            }
             StmtNode::Continue(None) => Ok(Control::Continue),
             StmtNode::Break(None) => Ok(Control::Break),
             StmtNode::Continue(Some(_)) => Ok(Control::Done),
             StmtNode::Break(Some(_)) => Ok(Control::Done),
-            StmtNode::Var(_) => Ok(Control::Done),
             StmtNode::ForIn(_, _, _) => Ok(Control::Done),
             StmtNode::Return(_) => Ok(Control::Done),
             StmtNode::Switch(_, _) => Ok(Control::Done),

@@ -52,7 +52,13 @@ impl Machine {
             Frame::If(_) => Ok(Control::Done),
             Frame::Test(_) => Ok(Control::Done),
             Frame::Again(_) => Ok(Control::Done),
+            Frame::Store(_) => Ok(Control::Done),
+            Frame::Unary(_) => Ok(Control::Done),
+            Frame::Type => Ok(Control::Done),
+            Frame::Var(_, _) => Ok(Control::Done),
+            Frame::ForVar(_, _, _) => Ok(Control::Done),
             Frame::Right(_) => self.pass_one(Control::Done),
+            Frame::StoreWith(_, _) => self.pass_one(Control::Done),
         }
     }
 
@@ -75,7 +81,13 @@ impl Machine {
             Frame::Test(_) => Ok(Control::Break),
             Frame::Again(_) => Ok(Control::Break),
             Frame::Next(_, _) => Ok(Control::Break),
+            Frame::Store(_) => Ok(Control::Break),
+            Frame::Unary(_) => Ok(Control::Break),
+            Frame::Type => Ok(Control::Break),
+            Frame::Var(_, _) => Ok(Control::Break),
+            Frame::ForVar(_, _, _) => Ok(Control::Break),
             Frame::Right(_) => self.pass_one(Control::Break),
+            Frame::StoreWith(_, _) => self.pass_one(Control::Break),
         }
     }
 
@@ -98,7 +110,13 @@ impl Machine {
             Frame::Test(_) => Ok(Control::Continue),
             Frame::Again(_) => Ok(Control::Continue),
             Frame::Next(_, _) => Ok(Control::Continue),
+            Frame::Store(_) => Ok(Control::Continue),
+            Frame::Unary(_) => Ok(Control::Continue),
+            Frame::Type => Ok(Control::Continue),
+            Frame::Var(_, _) => Ok(Control::Continue),
+            Frame::ForVar(_, _, _) => Ok(Control::Continue),
             Frame::Right(_) => self.pass_one(Control::Continue),
+            Frame::StoreWith(_, _) => self.pass_one(Control::Continue),
         }
     }
 
@@ -121,7 +139,13 @@ impl Machine {
             Frame::Again(_) => self.throw_over(0),
             Frame::Next(_, _) => self.throw_over(0),
             Frame::Turn(_) => self.throw_over(0),
+            Frame::Store(_) => self.throw_over(0),
+            Frame::Unary(_) => self.throw_over(0),
+            Frame::Type => self.throw_over(0),
+            Frame::Var(_, _) => self.throw_over(0),
+            Frame::ForVar(_, _, _) => self.throw_over(0),
             Frame::Right(_) => self.throw_over(1),
+            Frame::StoreWith(_, _) => self.throw_over(1),
         }
     }
 }

@@ -1,7 +1,7 @@
 //! What waits for outcomes, and what the machine does next.
 
-use js_code::{ExprCode, StmtCode, StmtCodes};
-use js_tree::BinaryOp;
+use js_code::{ExprCode, StmtCode, StmtCodes, VarCodes};
+use js_tree::{BinaryOp, PostfixOp, PrefixOp};
 use js_values::Reason;
 use std::mem::size_of;
 
@@ -29,6 +29,18 @@ pub enum Frame {
     Turn(StmtCode),
     /// For an expression in the header of this loop, behind which a turn begins.
     Again(StmtCode),
+    /// For the value that is written to this name.
+    Store(ExprCode),
+    /// For the right operand of an assignment to this name. It owns the left one.
+    StoreWith(BinaryOp, ExprCode),
+    /// For the operand of an operator on a value.
+    Unary(PrefixOp),
+    /// For the operand of `typeof`.
+    Type,
+    /// For the value of the item of a `var` that has this number.
+    Var(u32, VarCodes),
+    /// The same in the header of this loop.
+    ForVar(u32, VarCodes, StmtCode),
 }
 
 // Calls nest by the million.
@@ -80,8 +92,10 @@ pub enum Unbuilt {
     Give,
     /// The list goes on from this number on with what is no statement.
     List(StmtCodes, u32),
-    /// A script that declares something.
+    /// A script that declares functions.
     Script(StmtCodes),
+    /// `++` or `--` of this name, whose value is to be converted, and whether it gives the new one.
+    Change(PostfixOp, bool, ExprCode),
 }
 
 /// Why the machine does not go on.

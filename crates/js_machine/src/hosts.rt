@@ -1,6 +1,8 @@
 //! The host calls of a page, by their objects.
 
-ghost use Rattle.std.specs.Prelude.{◌≡◌, []};
+ghost use Rattle.std.specs.Prelude.{◌≡◌, [], is_some, map};
+ghost use Rattle.js_machine.specs.Globals.{host_body};
+ghost use Rattle.js_machine.specs.State.{body_in};
 
 use dl_text::Units;
 use std::alloc::Global;
@@ -29,6 +31,19 @@ impl Model for Hosts {
 }
 
 impl Hosts {
+    /// Whether an object is one of them.
+    #[tactic(auto, using(crate::proofs::HostLaws::has_laws))]
+    pub fn has(&self, o: u64) -> bool
+        ensures { result ≡ is_some (body_in (map host_body self.now) o) }
+    {
+        for call in self.calls.as_slice() {
+            if call.object == o {
+                return true;
+            }
+        }
+        false
+    }
+
     /// No host call.
     pub fn new(alloc: Global) -> Hosts
         ensures { result ≡ [] }

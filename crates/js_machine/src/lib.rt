@@ -7,6 +7,7 @@
 //! as not built yet. Worked runs stand in `machine_rows` and `machine_table`.
 #![tactic(auto)]
 
+mod assignments;
 mod begin;
 mod clock;
 mod expressions;
@@ -16,12 +17,15 @@ mod hosts;
 mod laws;
 mod loops;
 mod machine;
+mod names;
 mod operators;
 mod run;
 mod stacks;
 mod statements;
 mod task;
+mod unary;
 mod values;
+mod variables;
 
 pub use laws::{
     lists_are_applied, long_texts_stop, nodes_have_parts, pages_grow, pages_rise,

@@ -2,9 +2,10 @@
 
 ghost use Rattle.std.specs.Prelude.{◌≡◌, [], IfOk};
 ghost use Rattle.object_heap.specs.Start.{heap_at_start};
+ghost use Rattle.js_calls.specs.Declared.{functions_of};
 ghost use Rattle.js_tree.specs.Plain as view;
 ghost use Rattle.js_machine.specs.Halts.{HaltsAs, RunsTo, in_script};
-ghost use Rattle.js_machine.specs.NotBuilt.{StopsRightly, declares};
+ghost use Rattle.js_machine.specs.NotBuilt.{StopsRightly, has_functions};
 ghost use Rattle.js_machine.specs.Rest.{Same, over_control};
 ghost use Rattle.js_machine.specs.Stacks.{top};
 
@@ -13,7 +14,8 @@ use crate::frame::{Control, End, Over, Unbuilt};
 use crate::hosts::Hosts;
 use crate::machine::Machine;
 use crate::stacks::{Frames, Values};
-use dl_text::{Listed, TryCopy};
+use crate::variables::declare;
+use dl_text::TryCopy;
 use js_code::BodyCode;
 use js_tree::Script;
 use js_values::{Reason, Value};
@@ -32,11 +34,11 @@ pub enum Halt {
     Unbuilt,
 }
 
-/// Whether a script declares functions or variables.
-fn declares(code: &BodyCode) -> bool
-    ensures { result ≡ declares (view.body code.now) }
+/// Whether a script declares functions.
+fn declares_functions(code: &BodyCode) -> bool
+    ensures { result ≡ has_functions (functions_of (view.body code.now)) }
 {
-    !code.functions().is_empty() || !code.variables().items().is_empty()
+    !code.functions().is_empty()
 }
 
 impl Machine {
@@ -83,10 +85,11 @@ impl Machine {
             return Ok(Control::End(End::OutOfSteps));
         }
         let list = code.statements().share()?;
-        if declares(&code) {
+        if declares_functions(&code) {
             return Ok(Control::Unbuilt(Unbuilt::Script(list)));
         }
         self.clock.spend(1);
+        declare(&mut self.heap, code.variables())?;
         self.next_statement(list, 0)
     }
 

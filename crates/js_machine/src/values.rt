@@ -135,6 +135,12 @@ impl Machine {
                 let _v = self.values.pop();
                 self.turn(s)
             }
+            Frame::Store(target) => self.give_store(target),
+            Frame::StoreWith(op, target) => self.give_store_with(op, target),
+            Frame::Unary(op) => self.give_unary(op),
+            Frame::Type => self.give_type(),
+            Frame::Var(i, items) => self.give_var(i, items),
+            Frame::ForVar(i, items, s) => self.give_for_var(i, items, s),
         }
     }
 }
