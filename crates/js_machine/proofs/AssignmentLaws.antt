@@ -1,6 +1,6 @@
 -- What is left of a run in assignments, and where a target changes by one.
 use Rattle.std.proofs.Common.{◌≡◌, ℕ, ◌+◌, ◌-◌, Bool, true, false, List, [], ◌∷◌, ◌++◌, length, Option, Some, None, Ok, Err, refl, sym, ap, ◌∙◌}
-use Rattle.std.specs.Prelude.{Result, is_some, if◌then◌else◌}
+use Rattle.std.specs.Prelude.{Result, if◌then◌else◌}
 use Rattle.js_values.specs.declared.number.Num.{Num}
 use Rattle.js_values.specs.declared.reason.Reason.{Reason}
 use Rattle.js_values.specs.declared.value.Value.{Value}
@@ -37,7 +37,7 @@ use Rattle.js_machine.specs.Rest.{Outside, in_change, in_changed, in_expr, in_st
 use Rattle.js_machine.specs.Run.{due, pop, run}
 use Rattle.js_machine.specs.Stacks.{top, below}
 use Rattle.js_machine.specs.State.{object_value}
-use Rattle.js_machine.specs.Unary.{gives_after, gives_before, one}
+use Rattle.js_machine.specs.Unary.{one}
 use Rattle.js_machine.proofs.NameLaws.{read_bound, read_unbound}
 use Rattle.js_machine.proofs.Operating.{operator_gives, operator_stops}
 use Rattle.js_machine.proofs.StepLaws.{none, step}

@@ -46,6 +46,8 @@ module _ (n : ℕ) (fs : List Frame) (vs : List Value) (heap : Heap) (hosts : Li
   done_passes frame.Type h = refl
   done_passes (frame.Var i items) h = refl
   done_passes (frame.ForVar i items s) h = refl
+  done_passes (frame.Callee callee es) h = refl
+  done_passes (frame.Argument i callee es) h = refl
 
   pub break_passes : (f : Frame) → is_turn f ≡ false → in_break f n fs vs heap hosts beats steps out ≡ rest control.Break n fs (under f vs) heap hosts beats steps out
   unfolding in_break rest
@@ -67,6 +69,8 @@ module _ (n : ℕ) (fs : List Frame) (vs : List Value) (heap : Heap) (hosts : Li
   break_passes frame.Type h = refl
   break_passes (frame.Var i items) h = refl
   break_passes (frame.ForVar i items s) h = refl
+  break_passes (frame.Callee callee es) h = refl
+  break_passes (frame.Argument i callee es) h = refl
 
   pub continue_passes : (f : Frame) → is_turn f ≡ false → in_continue f n fs vs heap hosts beats steps out ≡ rest control.Continue n fs (under f vs) heap hosts beats steps out
   unfolding in_continue rest
@@ -88,6 +92,8 @@ module _ (n : ℕ) (fs : List Frame) (vs : List Value) (heap : Heap) (hosts : Li
   continue_passes frame.Type h = refl
   continue_passes (frame.Var i items) h = refl
   continue_passes (frame.ForVar i items s) h = refl
+  continue_passes (frame.Callee callee es) h = refl
+  continue_passes (frame.Argument i callee es) h = refl
 
   pub throw_passes : (f : Frame) → in_throw f n fs vs heap hosts beats steps out ≡ rest control.Throw n fs (top vs ∷ under f (below vs)) heap hosts beats steps out
   unfolding in_throw rest
@@ -109,6 +115,8 @@ module _ (n : ℕ) (fs : List Frame) (vs : List Value) (heap : Heap) (hosts : Li
   throw_passes frame.Type = refl
   throw_passes (frame.Var i items) = refl
   throw_passes (frame.ForVar i items s) = refl
+  throw_passes (frame.Callee callee es) = refl
+  throw_passes (frame.Argument i callee es) = refl
 
   -- ---- the newest frame, and the last one
 

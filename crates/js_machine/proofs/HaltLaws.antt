@@ -1,10 +1,11 @@
 -- How a run ended, by why the machine does not go on.
-use Rattle.std.proofs.Common.{◌≡◌, ℕ, ◌-◌, [], refl, sym, ap, ◌∙◌}
-use Rattle.std.specs.Prelude.{None}
+use Rattle.std.proofs.Common.{subst, ◌≡◌, ℕ, ◌-◌, List, [], refl, sym, ap, ◌∙◌}
+use Rattle.std.specs.Prelude.{Option, Some, None}
 use Rattle.js_values.specs.declared.reason.Reason.{Reason}
 use Rattle.js_values.specs.declared.value.Value.{Value}
 use Rattle.exceptions_core.specs.declared.completion.Completion.TheVariants as completion
-use Rattle.js_tree.specs.Tree.{Script}
+use Rattle.js_tree.specs.declared.tree.Stmt.{Stmt}
+use Rattle.js_tree.specs.Plain as view
 use Rattle.js_machine.specs.declared.frame.Control.{Control}
 use Rattle.js_machine.specs.declared.frame.End.TheVariants as end
 use Rattle.js_machine.specs.declared.frame.Over.{Over}
@@ -14,12 +15,14 @@ use Rattle.js_machine.specs.declared.machine.Machine.{Machine}
 use Rattle.js_machine.specs.declared.task.Halt.{Halt}
 use Rattle.js_machine.specs.declared.task.Halt.TheVariants as halt
 use Rattle.js_machine.specs.Asks.{Gives, Ends}
-use Rattle.js_machine.specs.Halts.{HaltsAs, RunsTo, in_script}
+use Rattle.js_machine.specs.Given.{Asked, LeadsTo, after}
+use Rattle.js_machine.specs.Halts.{HaltsAs, RunsTask, RunsTo, in_script}
 use Rattle.js_machine.specs.NotBuilt.{IsNotBuilt}
 use Rattle.js_machine.specs.Rest.{Outside, Same, at, over_control, rest, thrown}
 use Rattle.js_machine.specs.Run.{End}
 use Rattle.js_machine.specs.Rest as left
 use Rattle.js_machine.specs.Stacks.{top}
+use Rattle.js_machine.proofs.GivenLaws.{goes_from, goes_to}
 
 module _ (m : Machine) where
   pub gave : HaltsAs halt.Ended (over.End end.Gave) m
@@ -55,21 +58,39 @@ module _ (m : Machine) where
   not_built what is = λ t out h. (what, (h, is))
 
 -- a run goes from its start to where the machine is over
-pub run_halts : (code script : Script) (budget : ℕ) (old start entered new : Machine) (next : Control) (why : Over) (h : Halt)
-    → code ≡ script
+pub run_halts : (code : List Stmt) (budget : ℕ) (old start entered stopped new : Machine) (next : Control) (why : Over) (h : Halt) (given told : List Asked)
+    → old.task ≡ Some code
     → start.clock ≡ (old.clock.0, budget - old.clock.0) → start.frames ≡ [] → start.values ≡ [] → start.heap ≡ old.heap → start.hosts ≡ old.hosts → start.beats ≡ old.beats
-    → Same (in_script code) start next entered → Same (rest next) entered (over_control why) new → HaltsAs h why new → RunsTo script budget old h new
+    → Same (in_script (view.body code)) start next entered → LeadsTo (rest next) entered given (over_control why) stopped told → new ≡ record stopped { task = None } → HaltsAs h why new → RunsTo budget old given h new told
 unfolding HaltsAs RunsTo
-run_halts code script budget old start entered new next why h same clock frames values heap hosts beats enters goes halts = λ out.
-    halts (in_script script (budget - old.clock.0) [] [] old.heap old.hosts old.beats old.clock.0 out) out
-    (ap (λ s. in_script s (budget - old.clock.0) [] [] old.heap old.hosts old.beats old.clock.0 out) (sym same)
-    ∙ ap (λ c. in_script code c.1 [] [] old.heap old.hosts old.beats c.0 out) (sym clock)
-    ∙ ap (λ fs. in_script code start.clock.1 fs [] old.heap old.hosts old.beats start.clock.0 out) (sym frames)
-    ∙ ap (λ vs. in_script code start.clock.1 start.frames vs old.heap old.hosts old.beats start.clock.0 out) (sym values)
-    ∙ ap (λ k. in_script code start.clock.1 start.frames start.values k old.hosts old.beats start.clock.0 out) (sym heap)
-    ∙ ap (λ k. in_script code start.clock.1 start.frames start.values start.heap k old.beats start.clock.0 out) (sym hosts)
-    ∙ ap (λ k. in_script code start.clock.1 start.frames start.values start.heap start.hosts k start.clock.0 out) (sym beats)
-    ∙ enters out ∙ goes out)
+run_halts code budget old start entered stopped new next why h given told task clock frames values heap hosts beats enters goes is halts =
+    let P : Option (List Stmt) → Type 0 = λ t. RunsTask t budget old given h new told in
+    let asks = goes.0 in
+    let script = in_script (view.body code) in
+    subst P (sym task) (
+      asks,
+      (
+        goes.1.0,
+        λ out answers.
+            let first = script (budget - old.clock.0) [] [] old.heap old.hosts old.beats old.clock.0 out in
+            let last = at (rest (over_control why)) new (after asks out) in (
+              last,
+              (
+                goes_from asks out first (at (rest next) entered out) last
+                    (ap (λ c. script c.1 [] [] old.heap old.hosts old.beats c.0 out) (sym clock)
+                    ∙ ap (λ fs. script start.clock.1 fs [] old.heap old.hosts old.beats start.clock.0 out) (sym frames)
+                    ∙ ap (λ vs. script start.clock.1 start.frames vs old.heap old.hosts old.beats start.clock.0 out) (sym values)
+                    ∙ ap (λ k. script start.clock.1 start.frames start.values k old.hosts old.beats start.clock.0 out) (sym heap)
+                    ∙ ap (λ k. script start.clock.1 start.frames start.values start.heap k old.beats start.clock.0 out) (sym hosts)
+                    ∙ ap (λ k. script start.clock.1 start.frames start.values start.heap start.hosts k start.clock.0 out) (sym beats)
+                    ∙ enters out)
+                    (goes_to asks out (at (rest next) entered out) (at (rest (over_control why)) stopped (after asks out)) last
+                    (goes.1.1 out answers) (sym (ap (λ m. at (rest (over_control why)) m (after asks out)) is))),
+                halts last (after asks out) refl,
+              ),
+            ),
+      ),
+    )
 
 -- ---- the cases of one call each
 

@@ -18,6 +18,8 @@ pub mod ThrowLaws
 pub mod AssignmentLaws
 pub mod UnaryLaws
 pub mod HostLaws
+pub mod GivenLaws
+pub mod CallLaws
 pub mod VariableLaws
 pub mod ScriptLaws
 pub mod HaltLaws

@@ -1,21 +1,18 @@
 -- What is left of a run where a name is read or written.
-use Rattle.std.proofs.Common.{◌≡◌, ℕ, zero, suc, Bool, true, false, List, [], ◌∷◌, ◌++◌, length, Option, Some, None, Ok, Err, refl, sym, ap, ◌∙◌}
-use Rattle.std.specs.Prelude.{IfOk, Result, is_some, option_map, if◌then◌else◌}
+use Rattle.std.proofs.Common.{◌≡◌, ℕ, zero, suc, true, false, List, [], ◌∷◌, ◌++◌, length, Option, Some, None, Ok, Err, refl, sym, ap, ◌∙◌}
+use Rattle.std.specs.Prelude.{is_some, option_map, if◌then◌else◌}
 use Rattle.js_values.specs.declared.value.Value.{Value}
 use Rattle.js_values.specs.declared.value.Value.TheVariants as value
-use Rattle.object_heap.specs.declared.answer.HeapError.{HeapError}
 use Rattle.object_heap.specs.declared.answer.HeapError.TheVariants as error
 use Rattle.object_heap.specs.declared.answer.Put as answer
 use Rattle.object_heap.specs.declared.built_in.BuiltIn.TheVariants as built
 use Rattle.object_heap.specs.Answers.{told}
-use Rattle.object_heap.specs.Get.{get, has_property, met}
+use Rattle.object_heap.specs.Get.{get, met}
 use Rattle.object_heap.specs.Names.{Name}
 use Rattle.object_heap.specs.Objects.{Heap, Holds, Property, Shares}
 use Rattle.object_heap.specs.Put as heap_put
 use Rattle.object_heap.specs.Put.{heap_after, put, written}
 use Rattle.scope_arena.specs.Scopes.{Scopes, value_at, written_at}
-use Rattle.js_tree.specs.declared.tree.Expr.{Expr}
-use Rattle.js_tree.specs.Plain.{expr}
 use Rattle.js_tree.specs.Tree as tree
 use Rattle.js_machine.specs.declared.frame.Frame.{Frame}
 use Rattle.js_machine.specs.declared.frame.Control.TheVariants as control

@@ -1,11 +1,12 @@
 -- Lists of values and of trees.
 use Rattle.std.proofs.Common.{◌≡◌, ◌<◌, ◌≤◌, ℕ, zero, suc, ◌+◌, ◌-◌, List, [], ◌∷◌, ◌++◌, length, take, drop, refl, sym, ap, ◌∙◌, arith, length-drop}
 use Rattle.std.specs.Prelude.{reverse, get_or}
-use Rattle.std.proofs.lemmas.List.{reverse-append, length-reverse, take-append-drop}
-use Rattle.std.proofs.Math.Seq.{drop-cons}
+use Rattle.std.proofs.lemmas.List.{reverse-append, reverse-reverse, get_or-reverse, length-reverse, take-append-drop, take_all}
+use Rattle.std.proofs.Math.Seq.{drop-cons, take-append_seam}
 use Rattle.std.proofs.Math.ListN.{drop_of_length-le}
 use Rattle.js_values.specs.declared.value.Value.{Value}
-use Rattle.js_machine.specs.Stacks.{without}
+use Rattle.js_values.specs.declared.value.Value.TheVariants.{Undefined}
+use Rattle.js_machine.specs.Stacks.{top, without}
 
 pub drop_out : {X : Type 0} (xs : List X) (i : ℕ) → length xs ≤ i → drop i xs ≡ []
 drop_out xs i h = drop_of_length-le xs h
@@ -46,3 +47,33 @@ cut_stack xs n (suc j) e =
     sym (ap (without n) (split_reverse xs (suc j))
     ∙ (ap (λ m. without m (reverse (drop (suc j) xs) ++ reverse (take (suc j) xs))) (sym (rest_length xs n (suc j) e h))
     ∙ without_front (reverse (drop (suc j) xs)) (reverse (take (suc j) xs))))
+
+-- so many of its newest values, the oldest of them first
+pub newest_cut : (xs : List Value) (n k : ℕ) → k ≡ length xs - n → drop k xs ≡ reverse (take n (reverse xs))
+newest_cut xs n zero e =
+    let l : length (reverse xs) ≤ n = omega (arith, e, length-reverse xs) in
+    sym (ap reverse (take_all n (reverse xs) l) ∙ reverse-reverse xs)
+newest_cut xs n (suc j) e =
+    let h : n ≤ length xs = omega (arith, e) in
+    sym (ap (λ ys. reverse (take n ys)) (split_reverse xs (suc j))
+    ∙ (ap (λ m. reverse (take m (reverse (drop (suc j) xs) ++ reverse (take (suc j) xs)))) (sym (rest_length xs n (suc j) e h))
+    ∙ (ap reverse (take-append_seam (reverse (drop (suc j) xs)) (reverse (take (suc j) xs)))
+    ∙ reverse-reverse (drop (suc j) xs))))
+
+top_at : (vs : List Value) (n : ℕ) → top (without n vs) ≡ get_or vs n Undefined
+top_at [] n = ap top (without_empty n)
+top_at (v ∷ vs) zero = refl
+top_at (v ∷ vs) (suc n) = top_at vs n
+
+-- the value under so many newer ones
+pub value_under : (xs : List Value) (n : ℕ) → n < length xs → get_or xs (length xs - 1 - n) Undefined ≡ top (without n (reverse xs))
+value_under xs n h = sym (top_at (reverse xs) n ∙ get_or-reverse xs n Undefined h)
+
+pub none_under : (xs : List Value) (n : ℕ) → length xs ≤ n → top (without n (reverse xs)) ≡ Undefined
+none_under xs n h = let l : length (reverse xs) ≤ n = omega (arith, h, length-reverse xs) in ap top (without_more (reverse xs) n l)
+
+-- a read within the list does not depend on what stands behind it
+pub read_at : (xs : List Value) (i : ℕ) (v : Value) → i < length xs → v ≡ get_or xs i v → v ≡ get_or xs i Undefined
+read_at [] i v h e = absurd (omega (arith, h))
+read_at (x ∷ xs) zero v h e = e
+read_at (x ∷ xs) (suc i) v h e = read_at xs i v (omega (arith, h)) e

@@ -1,18 +1,16 @@
 -- What is left of a run in unary operators.
 use Rattle.std.proofs.Common.{◌≡◌, ℕ, ◌+◌, ◌-◌, Bool, true, false, List, [], ◌∷◌, Option, Some, None, Ok, Err, refl, sym, ap, ◌∙◌}
-use Rattle.std.specs.Prelude.{Result, codes, is_some, map, not, if◌then◌else◌}
+use Rattle.std.specs.Prelude.{is_some, map, not}
 use Rattle.std.specs.Str.{chars}
 use Rattle.dl_text.specs.Utf16.{utf16}
-use Rattle.js_values.specs.declared.number.Num.{Num}
 use Rattle.js_values.specs.declared.reason.Reason.{Reason}
 use Rattle.js_values.specs.declared.value.Value.{Value}
 use Rattle.js_values.specs.declared.value.Value.TheVariants as value
-use Rattle.js_values.specs.Values.{number_of, type_of}
-use Rattle.object_heap.specs.declared.built_in.BuiltIn.{BuiltIn}
+use Rattle.js_values.specs.Values.{type_of}
 use Rattle.object_heap.specs.declared.object.Class.{Class}
 use Rattle.object_heap.specs.declared.object.Class.TheVariants as class
 use Rattle.object_heap.specs.BuiltIns.{which}
-use Rattle.object_heap.specs.Get.{has_property, met}
+use Rattle.object_heap.specs.Get.{met}
 use Rattle.object_heap.specs.Names.{Name}
 use Rattle.object_heap.specs.Objects.{Heap, class_of}
 use Rattle.js_tree.specs.declared.tree.Expr.{Expr}
@@ -32,20 +30,18 @@ use Rattle.js_machine.specs.Asks.{Program, AnExpr, Tick}
 use Rattle.js_machine.specs.Built.{is_built_prefix, is_member, is_name}
 use Rattle.js_machine.specs.Calls.{reference}
 use Rattle.js_machine.specs.Expressions.{expression}
-use Rattle.js_machine.specs.Frames.{gives, on_value, value_of}
+use Rattle.js_machine.specs.Frames.{gives, value_of}
 use Rattle.js_machine.specs.Globals.{changing, is_callable, is_callable_by, name_in, prefix_of, type_told, unary, unary_of, value_of_global}
 use Rattle.js_machine.specs.Globals.{host_body, number_by}
 use Rattle.js_machine.specs.Kinds.{is_function}
 use Rattle.js_machine.specs.Operated.{Operated}
 use Rattle.js_machine.specs.Page.{script_env}
-use Rattle.js_machine.specs.Programs.{program}
 use Rattle.js_machine.specs.References.{Reference, NoReference, global_object, if_global, or_undefined, resolve}
-use Rattle.js_machine.specs.Rest.{Outside, in_change, in_expr, in_type, in_value, rest, running, stack, state_of}
-use Rattle.js_machine.specs.Run.{due, run}
+use Rattle.js_machine.specs.Rest.{Outside, in_change, in_expr, in_type, in_value, rest, running, state_of}
 use Rattle.js_machine.specs.Stacks.{top, below}
 use Rattle.js_machine.specs.State.{Callee, function_callee, kind_by, kind_in, kind_of}
 use Rattle.js_machine.specs.Unary.{type_of_reference}
-use Rattle.js_machine.proofs.AssignmentLaws.{named, number_read}
+use Rattle.js_machine.proofs.AssignmentLaws.{named}
 use Rattle.js_machine.proofs.NameLaws.{is_met, is_not_met}
 use Rattle.js_machine.proofs.Operating.{GoesOn, goes_on, stops, asks, number_goes}
 use Rattle.js_machine.proofs.StepLaws.{none, step}

@@ -1,6 +1,6 @@
 -- What is left of a run in variables.
-use Rattle.std.proofs.Common.{◌≡◌, ℕ, zero, suc, ◌+◌, ◌-◌, Bool, true, false, List, [], ◌∷◌, ◌++◌, length, Option, Some, None, refl, sym, ap, ◌∙◌}
-use Rattle.std.specs.Prelude.{if◌then◌else◌, option_map}
+use Rattle.std.proofs.Common.{◌≡◌, ℕ, ◌+◌, Bool, true, false, List, [], ◌∷◌, ◌++◌, length, Option, Some, None, refl, sym, ap, ◌∙◌}
+use Rattle.std.specs.Prelude.{option_map}
 use Rattle.js_values.specs.declared.value.Value.{Value}
 use Rattle.js_values.specs.declared.value.Value.TheVariants as value
 use Rattle.object_heap.specs.declared.built_in.BuiltIn.TheVariants as built
@@ -33,7 +33,7 @@ use Rattle.js_machine.specs.Page.{script_env}
 use Rattle.js_machine.specs.Programs.{program}
 use Rattle.js_machine.specs.References.{error_object, global_object, if_global, put_value}
 use Rattle.js_machine.specs.Rest.{Outside, in_header, in_stmt, in_turn, in_value, in_variables, rest, running, stack, state_of, turning}
-use Rattle.js_machine.specs.Run.{due, run}
+use Rattle.js_machine.specs.Run.{due}
 use Rattle.js_machine.specs.Skipped.{Skips}
 use Rattle.js_machine.specs.Stacks.{top, below}
 use Rattle.js_machine.specs.State.{is_length, object_value}

@@ -7,6 +7,7 @@ use Rattle.js_tree.specs.Tree.{Expr}
 use Rattle.js_tree.specs.Tree.{Stmt}
 use Rattle.js_tree.specs.Tree as tree
 use Rattle.js_machine.specs.Globals.{name_in}
+use Rattle.js_machine.specs.Members.{dot_name}
 
 -- ---- statements
 
@@ -27,6 +28,9 @@ is_member (tree.Dot object name) = true
 is_member (tree.Index object key) = true
 is_member _ = false
 
+abbrev pub is_dot : Expr → Bool
+is_dot e = is_some (dot_name e)
+
 -- an operator on a value, and on a name `typeof`, `++` and `--`
 abbrev pub is_built_prefix : PrefixOp → Expr → Bool
 is_built_prefix prefix.Delete operand = false
@@ -46,6 +50,7 @@ is_built_expression (tree.Truth b) = true
 is_built_expression tree.Null = true
 is_built_expression (tree.Ident name) = true
 is_built_expression (tree.Postfix target op) = is_name target
+is_built_expression (tree.Call callee es) = is_dot callee
 is_built_expression (tree.Prefix op operand) = is_built_prefix op operand
 is_built_expression (tree.Assign op target right) = is_name target
 is_built_expression (tree.Binary op left right) = true

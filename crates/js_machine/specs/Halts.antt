@@ -1,8 +1,10 @@
 -- How the run of a script ends, and in which state.
-use Rattle.std.specs.Prelude.{◌≡◌, ℕ, ◌-◌, [], Option, Some, None}
+use Rattle.std.specs.Prelude.{◌≡◌, ℕ, ◌-◌, List, [], ◌++◌, Option, Some, None}
 use Rattle.js_values.specs.declared.value.Value.{Value}
 use Rattle.exceptions_core.specs.declared.completion.Completion.{Completion}
 use Rattle.exceptions_core.specs.declared.completion.Completion.TheVariants as completion
+use Rattle.js_tree.specs.declared.tree.Stmt.{Stmt}
+use Rattle.js_tree.specs.Plain as view
 use Rattle.js_tree.specs.Tree.{Script}
 use Rattle.js_machine.specs.declared.frame.Unbuilt.{Unbuilt}
 use Rattle.js_machine.specs.declared.frame.Control.TheVariants as control
@@ -12,6 +14,7 @@ use Rattle.js_machine.specs.declared.task.Halt.{Halt}
 use Rattle.js_machine.specs.declared.task.Halt.TheVariants as halt
 use Rattle.js_machine.specs.Asks.{Outcome, Gives, Ends}
 use Rattle.js_machine.specs.Entries.{enter_script}
+use Rattle.js_machine.specs.Given.{Answers, Asked, Goes, after}
 use Rattle.js_machine.specs.NotBuilt.{IsNotBuilt}
 use Rattle.js_machine.specs.Page.{script_env}
 use Rattle.js_machine.specs.Rest.{Left, Outside, at, over_control, rest, starting, state, thrown}
@@ -47,9 +50,25 @@ unfoldable pub HaltsAs : Halt → Over → Machine → Type 0
 HaltsAs halt over m =
     (t : Trace) (out : Outside) → t ≡ at (rest (over_control over)) m out → HaltsIn halt t m out
 
--- the run of a script within so many steps, those before included, from one machine to another
-unfoldable pub RunsTo : Script → ℕ → Machine → Halt → Machine → Type 0
-RunsTo script budget old halt new =
-    (out : Outside) → HaltsIn halt
-    (in_script script (budget - old.clock.0) [] [] old.heap old.hosts old.beats old.clock.0 out)
-    new out
+-- a script is set as the task
+abbrev pub Starts : Script → Machine → Machine → Type 0
+Starts script old new =
+    (code : List Stmt) × ((view.body code ≡ script) × (new ≡ record old { task = Some code }))
+
+-- the run of a script within so many steps, those before included, from one machine to another,
+-- and what was asked before and behind it
+abbrev pub RunsFrom : Script → ℕ → Machine → List Asked → Halt → Machine → List Asked → Type 0
+RunsFrom script budget old given halt new given' =
+    (asked : List Asked) × ((given' ≡ given ++ asked) × ((out : Outside) → Answers asked out →
+    (t : Trace) × (Goes asked out
+    (in_script script (budget - old.clock.0) [] [] old.heap old.hosts old.beats old.clock.0 out) t
+    × HaltsIn halt t new (after asked out))))
+
+abbrev pub RunsTask : Option (List Stmt) → ℕ → Machine → List Asked → Halt → Machine → List Asked → Type 0
+RunsTask None budget old given halt new given' = ⊥
+RunsTask (Some code) budget old given halt new given' =
+    RunsFrom (view.body code) budget old given halt new given'
+
+-- the run of the task
+unfoldable pub RunsTo : ℕ → Machine → List Asked → Halt → Machine → List Asked → Type 0
+RunsTo budget old given halt new given' = RunsTask old.task budget old given halt new given'

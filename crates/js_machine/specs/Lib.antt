@@ -25,8 +25,11 @@ pub mod Operated
 pub mod Stacks
 pub mod Globals
 pub mod Skipped
+pub mod HostCalls
+pub mod Members
 pub mod Built
 pub mod NotBuilt
 pub mod Rest
 pub mod Reachable
+pub mod Given
 pub mod Halts

@@ -1,5 +1,5 @@
 -- Where the machine stops since what comes next is not built yet.
-use Rattle.std.specs.Prelude.{◌≡◌, Bool, true, false, List, [], ◌∷◌, Option, Some, None}
+use Rattle.std.specs.Prelude.{◌≡◌, ℕ, Bool, true, false, List, [], ◌∷◌, Option, Some, None}
 use Rattle.js_values.specs.declared.value.Value.{Value}
 use Rattle.object_heap.specs.Names.{Name}
 use Rattle.object_heap.specs.Objects.{Heap}
@@ -17,6 +17,8 @@ use Rattle.js_machine.specs.declared.frame.Unbuilt.TheVariants as unbuilt
 use Rattle.js_machine.specs.declared.machine.Machine.{Machine}
 use Rattle.js_machine.specs.Operated.{is_object, operated}
 use Rattle.js_machine.specs.Globals.{name_in, unary_of, value_of_global}
+use Rattle.js_machine.specs.declared.calls.Member.TheVariants as member
+use Rattle.js_machine.specs.Members.{base_on, dot_name, member_in}
 use Rattle.js_machine.specs.Built.{is_begun, is_built_expression, is_built_statement}
 use Rattle.js_machine.specs.Stacks.{top, below}
 
@@ -41,6 +43,8 @@ LooksInside (frame.Unary op ∷ fs) vs = unary_of op (top vs) ≡ None
 LooksInside (frame.Type ∷ fs) vs = ⊥
 LooksInside (frame.Var i items ∷ fs) vs = ⊥
 LooksInside (frame.ForVar i items s ∷ fs) vs = ⊥
+LooksInside (frame.Callee callee es ∷ fs) vs = ⊥
+LooksInside (frame.Argument i callee es ∷ fs) vs = ⊥
 
 -- whether a list goes on with a statement that is begun, or ends
 abbrev pub goes_on_built : Stmts → Bool
@@ -60,6 +64,11 @@ abbrev pub names_object : Heap → Option Name → Bool
 names_object heap None = false
 names_object heap (Some name) = holds_object (value_of_global heap name)
 
+-- the property holds a function of the start, or is one of a primitive value
+abbrev pub CallsUnbuilt : Heap → List Value → ℕ → Option Name → Type 0
+CallsUnbuilt heap vs count None = ⊥
+CallsUnbuilt heap vs count (Some name) = member_in heap (base_on count vs) name ≡ member.Unbuilt
+
 abbrev pub IsNotBuilt : Unbuilt → Machine → Type 0
 IsNotBuilt (unbuilt.Expr e) m = is_built_expression (expr e) ≡ false
 IsNotBuilt (unbuilt.Stmt s) m = is_built_statement (stmt s) ≡ false
@@ -70,12 +79,15 @@ IsNotBuilt (unbuilt.Script ss) m = has_functions (functions_of (view.body ss)) �
 -- its value is to be converted
 IsNotBuilt (unbuilt.Change op gives_new target) m =
     names_object m.heap (name_in (expr target)) ≡ true
+IsNotBuilt (unbuilt.Call count callee) m =
+    CallsUnbuilt m.heap m.values count (dot_name (expr callee))
 
 -- the machine says that something is not built only where that is so
 abbrev pub StopsRightly : Control → Machine → Type 0
 StopsRightly (control.Expr e) m = Unit {0}
 StopsRightly (control.Stmt s) m = Unit {0}
 StopsRightly (control.Body s) m = Unit {0}
+StopsRightly (control.Call count callee) m = Unit {0}
 StopsRightly control.Give m = Unit {0}
 StopsRightly control.Done m = Unit {0}
 StopsRightly control.Break m = Unit {0}

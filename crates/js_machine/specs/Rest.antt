@@ -1,6 +1,6 @@
 -- What is left of a run, by the machine's control, its frames and its values.
 use Rattle.std.specs.Prelude.{◌≡◌, ◌≤◌, ℕ, ◌+◌, ◌*◌, Bool, if◌then◌else◌}
-use Rattle.std.specs.Prelude.{List, [], ◌∷◌, length, map, Option, Some, None}
+use Rattle.std.specs.Prelude.{List, [], ◌∷◌, ◌++◌, length, map, Option, Some, None}
 use Rattle.js_values.specs.declared.number.Num.{Num}
 use Rattle.js_values.specs.declared.value.Value.{Value}
 use Rattle.js_values.specs.Shown.{Passed}
@@ -11,12 +11,13 @@ use Rattle.exceptions_core.specs.declared.completion.Landing.{Landing}
 use Rattle.object_heap.specs.Names.{Name}
 use Rattle.object_heap.specs.Objects.{Heap}
 use Rattle.js_tree.specs.declared.tree.PostfixOp.{PostfixOp}
+use Rattle.js_tree.specs.declared.tree.Expr as declared_expr
 use Rattle.js_tree.specs.declared.tree.Stmt as declared_stmt
 use Rattle.js_tree.specs.declared.tree.VarItem.{VarItem}
 use Rattle.js_tree.specs.Tree.{Expr, Stmt}
 use Rattle.js_tree.specs.Plain.{expr, stmt}
 use Rattle.js_tree.specs.Plain as view
-use Rattle.js_code.specs.Cursors.{stmts_from, var_items_from}
+use Rattle.js_code.specs.Cursors.{exprs_from, stmts_from, var_items_from}
 use Rattle.js_code.specs.Projections.{IfTree, LoopTree, if_parts, loop_parts}
 use Rattle.js_machine.specs.declared.hosts.HostCall.{HostCall}
 use Rattle.js_machine.specs.declared.machine.Machine.{Machine}
@@ -45,7 +46,10 @@ use Rattle.js_machine.specs.Globals.{no_names, stored, type_told, unary}
 use Rattle.js_machine.specs.Run.{World, Trace, Stack, pop, due, run}
 use Rattle.js_machine.specs.Run as trace
 use Rattle.js_machine.specs.Page.{script_env}
-use Rattle.js_machine.specs.Stacks.{top, below}
+use Rattle.js_machine.specs.Calls.{arguments}
+use Rattle.js_machine.specs.Conversions.{to_object}
+use Rattle.js_machine.specs.Members.{arguments_on, base_on, dot_name, member_called}
+use Rattle.js_machine.specs.Stacks.{top, below, without}
 
 -- ---- parts of nodes
 
@@ -124,6 +128,11 @@ waits frame.Type vs = on_value type_told
 waits (frame.Var i items) vs = on_value (initialised (var_items_from items i) done)
 waits (frame.ForVar i items s) vs =
     on_value (initialised (var_items_from items i) (turning (loop_parts (stmt s))))
+waits (frame.Callee callee es) vs = on_value (λ base. to_object base
+    (arguments (exprs_from es 0) script_env [] (member_called (dot_name (expr callee)) base)))
+waits (frame.Argument i callee es) vs = on_value (λ v.
+    arguments (exprs_from es (i + 1)) script_env (arguments_on i vs ++ v ∷ [])
+    (member_called (dot_name (expr callee)) (base_on i vs)))
 
 -- the values below those that the frame owns
 abbrev pub under : Frame → List Value → List Value
@@ -145,6 +154,8 @@ under (frame.Unary op) vs = vs
 under frame.Type vs = vs
 under (frame.Var i items) vs = vs
 under (frame.ForVar i items s) vs = vs
+under (frame.Callee callee es) vs = vs
+under (frame.Argument i callee es) vs = below (without i vs)
 
 abbrev pub stack : List Frame → List Value → Stack
 stack [] vs = []
@@ -191,10 +202,17 @@ ended (end.Stopped reason) vs s = trace.Stopped reason s
 abbrev pub at_end : End → Left
 at_end e n fs vs heap hosts beats steps out = ended e vs (state_of heap hosts beats steps out)
 
+-- the call of a property, with so many arguments above its base
+abbrev pub calling : ℕ → declared_expr.Expr → Left
+calling count callee n fs vs = running
+    (member_called (dot_name (expr callee)) (base_on count vs) (arguments_on count vs))
+    n fs (below (without count vs))
+
 unfoldable pub rest : Control → Left
 rest (control.Expr e) = starting (program (AnExpr (expr e)) script_env)
 rest (control.Stmt s) = starting (program (AStmt [] (stmt s)) script_env)
 rest (control.Body s) = starting (program (ATurn (stmt s)) script_env)
+rest (control.Call count callee) = calling count callee
 rest control.Give = popped_with Gives
 rest control.Done = popped (Ends completion.Normal)
 rest control.Break = popped (Ends (completion.Break None))
@@ -209,6 +227,7 @@ rest (control.Unbuilt (unbuilt.List ss i)) = running (statements (stmts_from ss 
 rest (control.Unbuilt (unbuilt.Script ss)) = starting (enter_script (view.body ss) script_env)
 rest (control.Unbuilt (unbuilt.Change op gives_new target)) =
     running (changing op gives_new (name_in (expr target)))
+rest (control.Unbuilt (unbuilt.Call count callee)) = calling count callee
 
 -- ---- inside a node whose step was taken
 
@@ -243,6 +262,13 @@ in_store name v w = running (stored name v w)
 
 unfoldable pub in_type : Value → Left
 in_type v = running (type_told v)
+
+-- the arguments of a call from one on, above those before it and the base
+unfoldable pub in_arguments : ℕ → declared_expr.Expr → List declared_expr.Expr → Left
+in_arguments i callee es n fs vs = running
+    (arguments (exprs_from es i) script_env (arguments_on i vs)
+    (member_called (dot_name (expr callee)) (base_on i vs)))
+    n fs (below (without i vs))
 
 -- the items of a `var` from one on
 unfoldable pub in_variables : List VarItem → ℕ → Left
@@ -293,6 +319,7 @@ abbrev pub weight : Control → ℕ
 weight (control.Expr e) = 1
 weight (control.Stmt s) = 1
 weight (control.Body s) = 1
+weight (control.Call count callee) = 5
 weight control.Give = 4
 weight control.Done = 4
 weight control.Break = 4

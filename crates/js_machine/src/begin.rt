@@ -8,6 +8,7 @@ ghost use Rattle.js_machine.specs.Built.{is_built_expression, is_built_prefix};
 ghost use Rattle.js_machine.specs.Built.{is_built_statement, is_member, is_plain_jump};
 ghost use Rattle.js_machine.specs.Rest.{Falls, Same, in_expr, in_stmt, rest};
 
+use crate::calls::dot_of;
 use crate::frame::{Control, Frame};
 use crate::machine::Machine;
 use crate::names::name_of;
@@ -87,7 +88,7 @@ pub(crate) fn is_built_expression(e: &ExprCode) -> bool
         ExprNode::Func(_) => false,
         ExprNode::Dot(_, _) => false,
         ExprNode::Index(_, _) => false,
-        ExprNode::Call(_, _) => false,
+        ExprNode::Call(callee, _) => dot_of(callee).is_some(),
         ExprNode::New(_, _) => false,
         ExprNode::Postfix(target, _) => name_of(target).is_some(),
         ExprNode::Prefix(op, _, operand) => is_built_prefix(*op, operand),
@@ -157,7 +158,7 @@ impl Machine {
             ExprNode::Func(_) => Ok(Control::Done),
             ExprNode::Dot(_, _) => Ok(Control::Done),
             ExprNode::Index(_, _) => Ok(Control::Done),
-            ExprNode::Call(_, _) => Ok(Control::Done),
+            ExprNode::Call(callee, arguments) => self.begin_call(callee, arguments),
             ExprNode::New(_, _) => Ok(Control::Done),
             ExprNode::Late(_) => Ok(Control::Done),
         }

@@ -59,6 +59,8 @@ impl Machine {
             Frame::ForVar(_, _, _) => Ok(Control::Done),
             Frame::Right(_) => self.pass_one(Control::Done),
             Frame::StoreWith(_, _) => self.pass_one(Control::Done),
+            Frame::Callee(_, _) => Ok(Control::Done),
+            Frame::Argument(i, _, _) => self.pass_call(i, Control::Done),
         }
     }
 
@@ -88,6 +90,8 @@ impl Machine {
             Frame::ForVar(_, _, _) => Ok(Control::Break),
             Frame::Right(_) => self.pass_one(Control::Break),
             Frame::StoreWith(_, _) => self.pass_one(Control::Break),
+            Frame::Callee(_, _) => Ok(Control::Break),
+            Frame::Argument(i, _, _) => self.pass_call(i, Control::Break),
         }
     }
 
@@ -117,7 +121,33 @@ impl Machine {
             Frame::ForVar(_, _, _) => Ok(Control::Continue),
             Frame::Right(_) => self.pass_one(Control::Continue),
             Frame::StoreWith(_, _) => self.pass_one(Control::Continue),
+            Frame::Callee(_, _) => Ok(Control::Continue),
+            Frame::Argument(i, _, _) => self.pass_call(i, Control::Continue),
         }
+    }
+
+    /// A call goes with so many arguments and its base.
+    fn pass_call(&mut self, count: u32, next: Control) -> Result<Control, AllocError>
+        ensures { IfOk result (λ c. (c ≡ next)
+            × (self.new ≡ record self.old { values = below (without count self.old.values) })) }
+    {
+        self.values.forget(count as usize);
+        let _base = self.values.pop();
+        Ok(next)
+    }
+
+    /// The same under the newest value, which stays.
+    fn throw_over_call(&mut self, count: u32) -> Result<Control, AllocError>
+        ensures { IfOk result (λ c. (c ≡ Control.Throw)
+            × (self.new ≡ record self.old {
+              values = top self.old.values ∷ below (without count (below self.old.values));
+            })) }
+    {
+        let v = self.values.pop();
+        self.values.forget(count as usize);
+        let _base = self.values.pop();
+        self.values.push(v)?;
+        Ok(Control::Throw)
     }
 
     /// An exception passes.
@@ -146,6 +176,8 @@ impl Machine {
             Frame::ForVar(_, _, _) => self.throw_over(0),
             Frame::Right(_) => self.throw_over(1),
             Frame::StoreWith(_, _) => self.throw_over(1),
+            Frame::Callee(_, _) => self.throw_over(0),
+            Frame::Argument(i, _, _) => self.throw_over_call(i),
         }
     }
 }

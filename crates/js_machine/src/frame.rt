@@ -1,6 +1,6 @@
 //! What waits for outcomes, and what the machine does next.
 
-use js_code::{ExprCode, StmtCode, StmtCodes, VarCodes};
+use js_code::{ExprCode, ExprCodes, StmtCode, StmtCodes, VarCodes};
 use js_tree::{BinaryOp, PostfixOp, PrefixOp};
 use js_values::Reason;
 use std::mem::size_of;
@@ -41,6 +41,10 @@ pub enum Frame {
     Var(u32, VarCodes),
     /// The same in the header of this loop.
     ForVar(u32, VarCodes, StmtCode),
+    /// For the base of this dot, which is called with these arguments.
+    Callee(ExprCode, ExprCodes),
+    /// For the argument of the call that has this number. It owns those before it and the base.
+    Argument(u32, ExprCode, ExprCodes),
 }
 
 // Calls nest by the million.
@@ -55,6 +59,8 @@ pub enum Control {
     Stmt(StmtCode),
     /// It begins a turn of a loop, of which this is the body.
     Body(StmtCode),
+    /// It calls this dot of the value that stands under so many arguments.
+    Call(u32, ExprCode),
     /// An expression gave a value.
     Give,
     /// A statement ended.
@@ -96,6 +102,8 @@ pub enum Unbuilt {
     Script(StmtCodes),
     /// `++` or `--` of this name, whose value is to be converted, and whether it gives the new one.
     Change(PostfixOp, bool, ExprCode),
+    /// The call of this dot of the value that stands under so many arguments.
+    Call(u32, ExprCode),
 }
 
 /// Why the machine does not go on.

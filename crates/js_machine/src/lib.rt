@@ -9,6 +9,7 @@
 
 mod assignments;
 mod begin;
+mod calls;
 mod clock;
 mod expressions;
 mod flow;
@@ -26,6 +27,7 @@ mod task;
 mod unary;
 mod values;
 mod variables;
+mod world;
 
 pub use laws::{
     lists_are_applied, long_texts_stop, nodes_have_parts, pages_grow, pages_rise,
@@ -33,3 +35,4 @@ pub use laws::{
 };
 pub use machine::Machine;
 pub use task::Halt;
+pub use world::Host;

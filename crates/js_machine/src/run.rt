@@ -1,12 +1,14 @@
 //! The run of the machine: one step after another, until it is over.
 
 ghost use Rattle.std.specs.Prelude.{◌≡◌, ◌∷◌, ◌≤◌, ◌<◌, ◌+◌, ◌*◌, length, IfOk};
+ghost use Rattle.js_machine.specs.Given.{LeadsTo};
 ghost use Rattle.js_machine.specs.NotBuilt.{StopsRightly};
 ghost use Rattle.js_machine.specs.Rest.{Same, measure, over_control, rest};
 
 use crate::begin::{is_built_expression, is_built_statement};
 use crate::frame::{Control, End, Over, Unbuilt};
 use crate::machine::Machine;
+use crate::world::Host;
 use js_code::{ExprCode, StmtCode};
 use std::alloc::AllocError;
 
@@ -148,10 +150,10 @@ impl Machine {
     }
 
     /// The machine goes on until it is over.
-    pub fn go(&mut self, from: Control) -> Result<Over, AllocError>
+    pub(crate) fn go<W: Host>(&mut self, from: Control, world: &mut W) -> Result<Over, AllocError>
         requires { StopsRightly from self.old }
-        ensures same { IfOk result (λ over.
-            Same (rest from) self.old (over_control over) self.new) }
+        ensures same { IfOk result (λ over. LeadsTo (rest from)
+            self.old (W.given world.old) (over_control over) self.new (W.given world.new)) }
         ensures rightly { IfOk result (λ over. StopsRightly (over_control over) self.new) }
     {
         let mut control = from;
@@ -160,6 +162,9 @@ impl Machine {
                 Control::Expr(e) => control = self.turn_expr(e)?,
                 Control::Stmt(s) => control = self.turn_stmt(s)?,
                 Control::Body(s) => control = self.turn_body(s)?,
+                Control::Call(count, callee) => {
+                    control = self.turn_call(count, callee, world)?;
+                }
                 Control::Give => control = self.turn_give()?,
                 Control::Done => control = self.turn_done()?,
                 Control::Break => control = self.turn_break()?,

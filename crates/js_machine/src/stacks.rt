@@ -1,6 +1,7 @@
 //! The machine's two stacks, each seen as its list, the newest first.
 
-ghost use Rattle.std.specs.Prelude.{◌≡◌, ◌∷◌, [], IfOk, MatchOption};
+ghost use Rattle.std.specs.Prelude.{◌≡◌, ◌∷◌, [], IfOk, MatchOption, reverse, take};
+ghost use Rattle.js_values.specs.declared.value.Value.TheVariants.{Undefined};
 ghost use Rattle.js_machine.specs.Stacks.{below, top, without};
 
 use crate::frame::Frame;
@@ -57,6 +58,29 @@ impl Values {
         ensures { MatchOption result (self.now ≡ []) (λ v. v.now ≡ top self.now) }
     {
         self.items.last()
+    }
+
+    /// The value under so many newer ones, if there is one.
+    #[inline]
+    pub fn under(&self, n: usize) -> Option<&Value>
+        ensures { MatchOption result (top (without n self.now) ≡ Undefined)
+            (λ v. v.now ≡ top (without n self.now)) }
+    {
+        let count = self.items.len();
+        if n < count {
+            Some(&self.items[count - 1 - n])
+        } else {
+            None
+        }
+    }
+
+    /// So many of the newest values, or all there are, the oldest of them first.
+    #[inline]
+    pub fn newest_of(&self, n: usize) -> &[Value]
+        ensures { result.now ≡ reverse (take n self.now) }
+    {
+        let from = self.items.len().saturating_sub(n);
+        &self.items[from..]
     }
 
     /// Drops so many of the newest values.

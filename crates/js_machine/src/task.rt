@@ -1,21 +1,23 @@
-//! Tasks: a machine is given a script, and runs it.
+//! Tasks: a machine is given a script, and runs it in a world that answers its host calls.
 
-ghost use Rattle.std.specs.Prelude.{◌≡◌, [], IfOk};
-ghost use Rattle.object_heap.specs.Start.{heap_at_start};
+ghost use Rattle.std.specs.Prelude.{◌≡◌, true, IfOk, None, is_some, map};
 ghost use Rattle.js_calls.specs.Declared.{functions_of};
 ghost use Rattle.js_tree.specs.Plain as view;
-ghost use Rattle.js_machine.specs.Halts.{HaltsAs, RunsTo, in_script};
+ghost use Rattle.js_machine.specs.Globals.{host_body};
+ghost use Rattle.js_machine.specs.Halts.{HaltsAs, RunsTo, Starts, in_script};
 ghost use Rattle.js_machine.specs.NotBuilt.{StopsRightly, has_functions};
+ghost use Rattle.js_machine.specs.Page.{state_at_start};
 ghost use Rattle.js_machine.specs.Rest.{Same, over_control};
 ghost use Rattle.js_machine.specs.Stacks.{top};
 
 use crate::clock::Clock;
 use crate::frame::{Control, End, Over, Unbuilt};
-use crate::hosts::Hosts;
+use crate::hosts::{Hosts, add_hosts};
 use crate::machine::Machine;
 use crate::stacks::{Frames, Values};
 use crate::variables::declare;
-use dl_text::TryCopy;
+use crate::world::Host;
+use dl_text::{Names, TryCopy};
 use js_code::BodyCode;
 use js_tree::Script;
 use js_values::{Reason, Value};
@@ -42,21 +44,28 @@ fn declares_functions(code: &BodyCode) -> bool
 }
 
 impl Machine {
-    /// A machine whose objects are those of the start, and which has taken no step.
-    pub fn new(alloc: Global) -> Result<Machine, AllocError>
-        ensures heap { IfOk result (λ m. m.heap ≡ heap_at_start) }
-        ensures hosts { IfOk result (λ m. m.hosts ≡ []) }
+    /// A machine whose objects are those of the start and the host calls of these names, and which
+    /// has taken no step. Of names that stand twice the last counts.
+    pub fn new(alloc: Global, host_names: &Names) -> Result<Machine, AllocError>
+        ensures heap { IfOk result (λ m. m.heap ≡ (state_at_start host_names.now).heap) }
+        ensures hosts { IfOk result (λ m.
+            map host_body m.hosts ≡ (state_at_start host_names.now).bodies) }
         ensures beats { IfOk result (λ m. m.beats ≡ 0) }
         ensures steps { IfOk result (λ m. m.clock ≡ (0, 0)) }
+        ensures task { IfOk result (λ m. m.task ≡ None) }
     {
+        let mut heap = Heap::new(alloc)?;
+        let mut hosts = Hosts::new(alloc);
+        add_hosts(alloc, &mut heap, &mut hosts, host_names)?;
         Ok(Machine {
             alloc,
-            heap: Heap::new(alloc)?,
-            hosts: Hosts::new(alloc),
+            heap,
+            hosts,
             frames: Frames::new(alloc),
             values: Values::new(alloc),
             clock: Clock::new(),
             beats: 0,
+            task: None,
         })
     }
 
@@ -121,17 +130,31 @@ impl Machine {
         }
     }
 
-    /// Runs a script until it ends, stops, or has taken so many steps, those before included.
-    pub fn run(&mut self, script: &Script, budget: u64) -> Result<Halt, AllocError>
-        ensures { IfOk result (λ halt.
-            RunsTo (view.script script.now) budget self.old halt self.new) }
+    /// Sets a script as the task. None is set before.
+    pub fn start(&mut self, script: &Script) -> Result<(), AllocError>
+        requires { self.old.task ≡ None }
+        ensures { IfOk result (λ _. Starts (view.script script.now) self.old self.new) }
     {
         let code = BodyCode::of_script(self.alloc, script)?;
+        self.task = Some(code);
+        Ok(())
+    }
+
+    /// Runs the task until it ends, stops, or has taken so many steps, those before included. No
+    /// task is set behind it.
+    pub fn run<W: Host>(&mut self, budget: u64, world: &mut W) -> Result<Halt, AllocError>
+        requires { is_some self.old.task ≡ true }
+        ensures runs { IfOk result (λ halt. RunsTo budget
+            self.old (W.given world.old) halt self.new (W.given world.new)) }
+        ensures task { IfOk result (λ _. self.new.task ≡ None) }
+    {
+        let code = self.task.take().unwrap();
         self.clock.allow(budget);
         self.frames = Frames::new(self.alloc);
         self.values = Values::new(self.alloc);
         let first = self.enter_script(code)?;
-        let over = self.go(first)?;
+        let over = self.go(first, world)?;
+        self.task = None;
         let halt = self.halt(over)?;
         Ok(halt)
     }

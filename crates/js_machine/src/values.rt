@@ -141,6 +141,8 @@ impl Machine {
             Frame::Type => self.give_type(),
             Frame::Var(i, items) => self.give_var(i, items),
             Frame::ForVar(i, items, s) => self.give_for_var(i, items, s),
+            Frame::Callee(callee, arguments) => self.give_callee(callee, arguments),
+            Frame::Argument(i, callee, arguments) => self.give_argument(i, callee, arguments),
         }
     }
 }

@@ -1,21 +1,25 @@
-//! Reads a table of scripts from standard input, runs each on a machine of its own, and writes how
-//! its run ended, with its steps and its beats; the seconds that it took go to standard error. A
-//! line is a budget of steps, a space and a script. The gate runs it on the table beside it, and
-//! `bench/machine.sh` on long runs.
+//! Reads a table of scripts from standard input, runs each on a machine of its own with the host
+//! call `out`, and writes what was called and how the run ended, with its steps and its beats; the
+//! seconds that it took go to standard error. A line is a budget of steps, a space and a script.
+//! The gate runs it on the table beside it, and `bench/machine.sh` on long runs.
 #![tactic(auto)]
+
+mod world;
 
 ghost use Rattle.std.specs.Prelude.{◌<◌, ◌-◌, ◌^◌, length};
 
-use dl_text::text_of;
+use dl_text::{Names, quote_units, text_of, units_of};
 use js_lexer::lex;
 use js_machine::{Halt, Machine};
 use js_parser::{Form, parse};
 use js_tree::Script;
+use js_values::Value;
 use source_files::{SourceError, SourceRoom};
 use std::alloc::Global;
 use std::io;
 use std::io::Read;
 use std::time::{Clock, Instant};
+use world::{Answered, Calls};
 
 /// The bytes that `lex` may be given.
 const LIMIT: usize = 0xffff_ffff;
@@ -32,7 +36,9 @@ fn read(alloc: Global, text: &str) -> Result<Script, SourceError>
 
 /// A machine without its contract, which names each object of the start.
 fn machine(alloc: Global) -> io::Result<Machine> {
-    Ok(Machine::new(alloc)?)
+    let mut names = Names::new(alloc);
+    names.push(units_of(alloc, "out")?)?;
+    Ok(Machine::new(alloc, &names)?)
 }
 
 /// Tells the seconds since then.
@@ -54,6 +60,39 @@ fn ended(alloc: Global, halt: &Halt) -> io::Result<String> {
     })
 }
 
+/// Writes a value of a host call.
+fn tell_value(rt: &impl Print, alloc: Global, value: &Value) -> io::Result<()> {
+    match value {
+        Value::Undefined => print!(rt; " undefined"),
+        Value::Null => print!(rt; " null"),
+        Value::Bool(b) => print!(rt; " {b}"),
+        Value::Num(n) => match n.value() {
+            Some(n) => print!(rt; " {n}"),
+            None => print!(rt; " NaN"),
+        },
+        Value::Str(units) => {
+            let quoted = quote_units(alloc, units)?;
+            match text_of(alloc, quoted.items()) {
+                Ok(text) => print!(rt; " {text}"),
+                Err(_) => print!(rt; " ?"),
+            }
+        }
+        Value::Object(_) => print!(rt; " object"),
+    }
+}
+
+/// Writes the host calls of a run, each on a line.
+fn tell_calls(rt: &impl Print, alloc: Global, calls: &[Answered]) -> io::Result<()> {
+    for call in calls {
+        print!(rt; "call out")?;
+        for value in call.arguments.as_slice() {
+            tell_value(rt, alloc, value)?;
+        }
+        println!(rt; "")?;
+    }
+    Ok(())
+}
+
 /// Runs a script, and writes how that ended.
 fn tell_run(
     rt: &(impl Print + Eprint + Clock),
@@ -62,9 +101,15 @@ fn tell_run(
     script: &Script,
 ) -> io::Result<()> {
     let mut machine = machine(alloc)?;
+    let mut world = Calls {
+        alloc,
+        calls: Vec::new(alloc),
+    };
+    machine.start(script)?;
     let start = Instant::now(rt)?;
-    let halt = machine.run(script, budget)?;
+    let halt = machine.run(budget, &mut world)?;
     tell_time(rt, start)?;
+    tell_calls(rt, alloc, world.calls.as_slice())?;
     let steps = machine.steps();
     let beats = machine.beats();
     let ended = ended(alloc, &halt)?;

@@ -1,4 +1,4 @@
-use Rattle.std.proofs.Common.{◌≡◌, ◌∙◌, ◌<◌, List, [], ◌∷◌, ◌++◌, sym, ap, take, length, arith}
+use Rattle.std.proofs.Common.{◌∙◌, [], ◌∷◌, ◌++◌, sym, ap, take}
 use Rattle.std.proofs.lemmas.Grind.{take_at_read}
 use Rattle.js_machine.specs.Globals.{with_variable, with_variables}
 use Rattle.js_machine.proofs.VariableLaws.{one_more}

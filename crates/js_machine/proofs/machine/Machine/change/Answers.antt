@@ -1,4 +1,4 @@
-use Rattle.std.proofs.Common.{◌≡◌, Some, sym, ap, ◌∙◌}
+use Rattle.std.proofs.Common.{Some, sym, ap, ◌∙◌}
 use Rattle.js_tree.specs.Plain.{expr}
 use Rattle.js_machine.proofs.AssignmentLaws.{change_goes, change_stops}
 use Rattle.js_machine.proofs.ThrowLaws.{if_ok}

@@ -1,18 +1,18 @@
-use Rattle.std.proofs.Common.{refl}
-use Rattle.js_tree.specs.Plain as view
+use Rattle.std.proofs.Common.{None, refl, sym, ◌∙◌}
 use Rattle.js_machine.proofs.HaltLaws.{run_halts}
 use Rattle.js_machine.proofs.machine.Machine.run.Goals as goal
 
 -- the machine enters the script with its steps allowed and its stacks empty
-pub returns : goal.returns
-returns c =
+pub returns-clause-runs : goal.returns-clause-runs
+returns-clause-runs g c =
     let start = record c.args.self.now {
       clock = c.allow.new.self;
       frames = c.new.result;
       values = c.new-2.result;
+      task = c.take.new.self;
     } in
-    run_halts (view.body c.in_ok-code.code) (view.script c.args.script.now) c.args.budget
-    c.args.self.now start c.enter_script.new.self c.go.new.self c.in_ok-first.first
-    c.in_ok-over.over c.in_ok-halt.halt c.in_ok-code.ensures c.allow.ensures c.new.ensures
-    c.new-2.ensures refl refl refl c.in_ok-first.ensures.same c.in_ok-over.ensures.same
-    c.in_ok-halt.ensures
+    run_halts c.unwrap-code.result c.args.budget c.args.self.now start c.enter_script.new.self
+    c.go.new.self (record c.go.new.self { task = None }) c.in_ok-first.first c.in_ok-over.over
+    c.in_ok-halt.halt (g.W.Host.given c.args.world.now) (g.W.Host.given c.go.new.world)
+    (sym c.take.ensures.value ∙ c.unwrap-code.ensures) c.allow.ensures c.new.ensures c.new-2.ensures
+    refl refl refl c.in_ok-first.ensures.same c.in_ok-over.ensures.same refl c.in_ok-halt.ensures

@@ -1,0 +1,278 @@
+//! Calls of properties of objects, and the host calls among them (ES3 11.2.3, 11.2.4).
+
+ghost use Rattle.std.specs.Prelude.{◌≡◌, ◌∷◌, ◌++◌, ◌≤◌, ◌<◌, ◌+◌, ◌*◌};
+ghost use Rattle.std.specs.Prelude.{[], length, true, IfOk, MatchOption, None, Some};
+ghost use Rattle.js_tree.specs.Plain.{expr};
+ghost use Rattle.js_tree.specs.Tree as tree;
+ghost use Rattle.js_code.specs.Cursors.{exprs_from};
+ghost use Rattle.js_machine.specs.Given.{LeadsTo};
+ghost use Rattle.js_machine.specs.Built.{is_dot};
+ghost use Rattle.js_machine.specs.Members.{base_on, dot_name, function_in, host_due, is_base};
+ghost use Rattle.js_machine.specs.Members.{member_in};
+ghost use Rattle.js_machine.specs.NotBuilt.{StopsRightly};
+ghost use Rattle.js_machine.specs.Rest.{Falls, Same, in_arguments, in_expr, in_value, measure};
+ghost use Rattle.js_machine.specs.References.{error_object};
+ghost use Rattle.js_machine.specs.Rest.{rest};
+ghost use Rattle.js_machine.specs.Stacks.{below, without};
+ghost use Rattle.js_machine.specs.State.{object_value};
+
+use crate::frame::{Control, End, Frame, Unbuilt};
+use crate::machine::Machine;
+use crate::world::Host;
+use dl_text::Units;
+use js_code::{ExprCode, ExprCodes, ExprNode};
+use js_values::{ObjectId, Value};
+use object_heap::{BuiltIn, Class, Prop};
+use std::alloc::AllocError;
+
+/// What a property holds, for a call.
+#[derive(Clone, Copy)]
+pub enum Member {
+    /// A function that was not there at the start.
+    Function(ObjectId),
+    /// What is no function.
+    Other,
+    /// What the machine does not call yet: a function of the start, or a property of a primitive
+    /// value.
+    Unbuilt,
+}
+
+/// The object and the name of a dot.
+pub(crate) fn dot_of(e: &ExprCode) -> Option<(&ExprCode, &Units)>
+    ensures { MatchOption result (dot_name (expr e.now) ≡ None)
+        (λ dot. expr e.now ≡ tree.Dot (expr dot.0.now) dot.1.now) }
+{
+    match e.node() {
+        ExprNode::Dot(object, name) => Some((object, name)),
+        ExprNode::Num(_) => None,
+        ExprNode::Str(_) => None,
+        ExprNode::Bool(_) => None,
+        ExprNode::Null => None,
+        ExprNode::This => None,
+        ExprNode::Name(_) => None,
+        ExprNode::Array(_) => None,
+        ExprNode::Object(_) => None,
+        ExprNode::Func(_) => None,
+        ExprNode::Index(_, _) => None,
+        ExprNode::Call(_, _) => None,
+        ExprNode::New(_, _) => None,
+        ExprNode::Postfix(_, _) => None,
+        ExprNode::Prefix(_, _, _) => None,
+        ExprNode::Binary(_, _, _, _) => None,
+        ExprNode::And(_, _) => None,
+        ExprNode::Or(_, _) => None,
+        ExprNode::Comma(_, _) => None,
+        ExprNode::Cond(_, _, _) => None,
+        ExprNode::Assign(_, _, _) => None,
+        ExprNode::Late(_) => None,
+    }
+}
+
+/// Whether a value has properties.
+fn is_base(v: &Value) -> bool
+    ensures { result ≡ is_base v.now }
+{
+    match v {
+        Value::Undefined => false,
+        Value::Null => false,
+        Value::Bool(_) => true,
+        Value::Num(_) => true,
+        Value::Str(_) => true,
+        Value::Object(_) => true,
+    }
+}
+
+impl Machine {
+    /// The base of a call is begun, behind the step of its dot.
+    #[inline]
+    #[tactic(auto, using(crate::proofs::CallLaws::call_laws))]
+    pub(crate) fn begin_call(
+        &mut self,
+        callee: &ExprCode,
+        arguments: &ExprCodes,
+    ) -> Result<Control, AllocError>
+        requires { is_dot (expr callee.now) ≡ true }
+        ensures same { IfOk result (λ next.
+            Same (in_expr (tree.Call (expr callee.now) (exprs_from arguments.now 0)))
+            self.old next self.new) }
+        ensures falls { IfOk result (λ next. Falls self.old next self.new) }
+        ensures rightly { IfOk result (λ next. StopsRightly next self.new) }
+    {
+        let Some((object, _)) = dot_of(callee) else {
+            return Ok(Control::Done);
+        };
+        if !self.clock.tick() {
+            return Ok(Control::End(End::OutOfSteps));
+        }
+        let callee = callee.share()?;
+        let arguments = arguments.share()?;
+        self.first(Frame::Callee(callee, arguments), object)
+    }
+
+    /// The arguments from one on are begun, and then the function is entered.
+    #[inline]
+    #[tactic(auto, using(crate::proofs::CallLaws::argument_laws))]
+    fn next_argument(
+        &mut self,
+        i: u32,
+        callee: ExprCode,
+        arguments: ExprCodes,
+    ) -> Result<Control, AllocError>
+        ensures same { IfOk result (λ next.
+            Same (in_arguments i callee arguments) self.old next self.new) }
+        ensures falls { IfOk result (λ next. Falls self.old next self.new) }
+        ensures rightly { IfOk result (λ next. StopsRightly next self.new) }
+    {
+        let Some(argument) = arguments.get(i as usize) else {
+            return Ok(Control::Call(i, callee));
+        };
+        let argument = argument.share()?;
+        self.frames.push(Frame::Argument(i, callee, arguments))?;
+        Ok(Control::Expr(argument))
+    }
+
+    #[inline]
+    #[tactic(auto, using(crate::proofs::CallLaws::base_laws))]
+    pub(crate) fn give_callee(
+        &mut self,
+        callee: ExprCode,
+        arguments: ExprCodes,
+    ) -> Result<Control, AllocError>
+        ensures same { IfOk result (λ next.
+            Same (in_value (Frame.Callee callee arguments)) self.old next self.new) }
+        ensures falls { IfOk result (λ next. Falls self.old next self.new) }
+        ensures rightly { IfOk result (λ next. StopsRightly next self.new) }
+    {
+        let base = self.values.pop();
+        if !is_base(&base) {
+            return self.throw_error(BuiltIn::TypeErrorPrototype);
+        }
+        self.values.push(base)?;
+        self.next_argument(0, callee, arguments)
+    }
+
+    #[inline]
+    #[tactic(auto, using(crate::proofs::CallLaws::given_laws))]
+    pub(crate) fn give_argument(
+        &mut self,
+        i: u32,
+        callee: ExprCode,
+        arguments: ExprCodes,
+    ) -> Result<Control, AllocError>
+        ensures same { IfOk result (λ next.
+            Same (in_value (Frame.Argument i callee arguments)) self.old next self.new) }
+        ensures falls { IfOk result (λ next. Falls self.old next self.new) }
+        ensures rightly { IfOk result (λ next. StopsRightly next self.new) }
+    {
+        if i == u32::MAX {
+            return Err(AllocError);
+        }
+        let v = self.values.pop();
+        self.values.push(v)?;
+        self.next_argument(i + 1, callee, arguments)
+    }
+
+    /// What a value is, for a call.
+    fn function_of(&self, v: &Value) -> Member
+        ensures { result ≡ function_in self.now.heap v.now }
+    {
+        match v {
+            Value::Object(o) => match (self.heap.class(*o), self.heap.which(*o)) {
+                (Some(Class::Function), None) => Member::Function(*o),
+                (Some(Class::Function), Some(_)) => Member::Unbuilt,
+                _ => Member::Other,
+            },
+            _ => Member::Other,
+        }
+    }
+
+    /// What a property holds of the base that stands under so many arguments.
+    fn member(&self, count: u32, name: &Units) -> Member
+        ensures { result ≡ member_in self.now.heap (base_on count self.now.values) name.now }
+    {
+        match self.values.under(count as usize) {
+            Some(Value::Object(o)) => match self.heap.get(*o, name) {
+                Some(Prop::Own(v)) => self.function_of(v),
+                _ => Member::Other,
+            },
+            _ => Member::Unbuilt,
+        }
+    }
+
+    /// The name of the host call that is due, if it is one.
+    #[tactic(auto, using(crate::proofs::CallLaws::due_laws))]
+    fn host_due(&self, count: u32, callee: &ExprCode) -> Option<&Units>
+        ensures { MatchOption result
+            (host_due self.now count (dot_name (expr callee.now)) ≡ None)
+            (λ name. host_due self.now count (dot_name (expr callee.now)) ≡ Some name.now) }
+    {
+        let (_, name) = dot_of(callee)?;
+        match self.member(count, name) {
+            Member::Function(o) => self.hosts.name(o.0),
+            Member::Other => None,
+            Member::Unbuilt => None,
+        }
+    }
+
+    /// An error is thrown in the place of a call with so many arguments.
+    fn throw_at_call(&mut self, count: u32) -> Result<Control, AllocError>
+        ensures { IfOk result (λ next. (next ≡ Control.Throw)
+            × (self.new ≡ record self.old {
+              heap = self.old.heap ++ error_object BuiltIn.TypeErrorPrototype ∷ [];
+              values = object_value (length self.old.heap)
+                  ∷ below (without count self.old.values);
+            })) }
+    {
+        self.values.forget(count as usize);
+        let _base = self.values.pop();
+        self.throw_error(BuiltIn::TypeErrorPrototype)
+    }
+
+    /// A property is called that holds no host call.
+    #[tactic(auto, using(crate::proofs::CallLaws::other_laws))]
+    fn call_other(&mut self, count: u32, callee: ExprCode) -> Result<Control, AllocError>
+        requires { host_due self.old count (dot_name (expr callee)) ≡ None }
+        ensures same { IfOk result (λ next.
+            Same (rest (Control.Call count callee)) self.old next self.new) }
+        ensures falls { IfOk result (λ next.
+            measure next self.new < measure (Control.Call count callee) self.old) }
+        ensures rightly { IfOk result (λ next. StopsRightly next self.new) }
+    {
+        let Some((_, name)) = dot_of(&callee) else {
+            self.values.forget(count as usize);
+            let _base = self.values.pop();
+            return Ok(Control::Done);
+        };
+        match self.member(count, name) {
+            Member::Function(_) => self.throw_at_call(count),
+            Member::Other => self.throw_at_call(count),
+            Member::Unbuilt => Ok(Control::Unbuilt(Unbuilt::Call(count, callee))),
+        }
+    }
+
+    /// The call of a property, if a step is left; host calls are asked of the world.
+    pub(crate) fn turn_call<W: Host>(
+        &mut self,
+        count: u32,
+        callee: ExprCode,
+        world: &mut W,
+    ) -> Result<Control, AllocError>
+        ensures same { IfOk result (λ next. LeadsTo (rest (Control.Call count callee))
+            self.old (W.given world.old) next self.new (W.given world.new)) }
+        ensures falls { IfOk result (λ next.
+            measure next self.new < measure (Control.Call count callee) self.old) }
+        ensures rightly { IfOk result (λ next. StopsRightly next self.new) }
+    {
+        let Some(name) = self.host_due(count, &callee) else {
+            return self.call_other(count, callee);
+        };
+        if self.clock.left() == 0 {
+            return Ok(Control::End(End::OutOfSteps));
+        }
+        let v = world.call(name, self.values.newest_of(count as usize))?;
+        self.clock.spend(1);
+        self.values.forget(count as usize);
+        let _base = self.values.pop();
+        self.answer(v)
+    }
+}
