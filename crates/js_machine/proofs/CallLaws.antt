@@ -6,6 +6,7 @@ use Rattle.js_values.specs.declared.value.ObjectId.{ObjectId}
 use Rattle.js_values.specs.declared.value.Value.{Value}
 use Rattle.js_values.specs.declared.value.Value.TheVariants as value
 use Rattle.js_values.specs.Shown.{shown_of_all}
+use Rattle.exceptions_core.specs.declared.completion.Completion.TheVariants as completion
 use Rattle.object_heap.specs.declared.built_in.BuiltIn.{BuiltIn}
 use Rattle.object_heap.specs.declared.built_in.BuiltIn.TheVariants as built
 use Rattle.object_heap.specs.declared.object.Class.{Class}
@@ -19,7 +20,6 @@ use Rattle.js_tree.specs.Plain.{expr}
 use Rattle.js_tree.specs.Tree.{MoreExprs, NoExprs}
 use Rattle.js_tree.specs.Tree as tree
 use Rattle.js_code.specs.Cursors.{exprs_from}
-use Rattle.js_machine.specs.declared.calls.Member.{Member}
 use Rattle.js_machine.specs.declared.calls.Member.TheVariants as member
 use Rattle.js_machine.specs.declared.frame.Frame.{Frame}
 use Rattle.js_machine.specs.declared.frame.Frame.TheVariants as frame
@@ -29,22 +29,23 @@ use Rattle.js_machine.specs.declared.frame.End.TheVariants as end
 use Rattle.js_machine.specs.declared.frame.Unbuilt.TheVariants as unbuilt
 use Rattle.js_machine.specs.declared.hosts.HostCall.{HostCall}
 use Rattle.js_machine.specs.declared.machine.Machine.{Machine}
-use Rattle.js_machine.specs.Asks.{Program, AnExpr, Enter, Ret, TellCall}
+use Rattle.js_machine.specs.Asks.{Program, AnExpr, Ends, Enter, Ret, TellCall}
 use Rattle.js_machine.specs.Calls.{arguments, dot}
 use Rattle.js_machine.specs.Conversions.{to_object}
 use Rattle.js_machine.specs.Expressions.{expression}
 use Rattle.js_machine.specs.Frames.{gives, on_value}
 use Rattle.js_machine.specs.Given.{Asked, Called, LeadsTo, Tells, after_call}
 use Rattle.js_machine.specs.Globals.{no_names}
-use Rattle.js_machine.specs.HostCalls.{host_name}
-use Rattle.js_machine.specs.Members.{arguments_on, base_on, dot_name, function_by, function_in, host_at, host_due, host_of, is_base, member_called, member_in}
+use Rattle.js_machine.specs.HostCalls.{host_call_by, host_call_in, host_name}
+use Rattle.js_machine.specs.Members.{arguments_on, base_on, dot_name, is_base, is_native, is_native_by, member_called, member_in, member_of}
+use Rattle.js_machine.specs.NotBuilt.{CallsUnbuilt}
 use Rattle.js_machine.specs.Page.{script_env}
 use Rattle.js_machine.specs.Programs.{program}
 use Rattle.js_machine.specs.References.{error_object, get_value, or_undefined}
 use Rattle.js_machine.specs.Rest.{Outside, at, in_arguments, in_expr, in_value, rest, running, stack, state_of}
-use Rattle.js_machine.specs.Run.{Call, Say, due, entered, go, if_entered, pop, reply}
+use Rattle.js_machine.specs.Run.{Trace, Call, Say, due, entered, go, if_entered, pop, reply}
 use Rattle.js_machine.specs.Stacks.{below, top, without}
-use Rattle.js_machine.specs.State.{Callee, State, body_in, callee_by, callee_of, function_callee, object_value, value_read, with_object}
+use Rattle.js_machine.specs.State.{Callee, State, callee_by, callee_of, function_callee, object_value, value_read, with_object}
 use Rattle.js_machine.specs.State as state
 use Rattle.js_machine.proofs.HostLaws.{callee_is}
 use Rattle.js_machine.proofs.StepLaws.{none, step}
@@ -55,81 +56,56 @@ use Rattle.js_machine.proofs.StepLaws.{none, step}
 one_more : (i : ℕ) (v : Value) (vs : List Value) → arguments_on (suc i) (v ∷ vs) ≡ arguments_on i vs ++ v ∷ []
 one_more i v vs = reverse-append (v ∷ []) (take i vs)
 
--- ---- values that are called
+-- ---- what an object runs when it is entered
 
 module _ (heap : Heap) (hosts : List HostCall) (beats steps : ℕ) (out : Outside) where
   abbrev s : State
   s = state_of heap hosts beats steps out
 
-  none_by : (o : ObjectId) (c : Option Class) (b : Option BuiltIn) → function_by c b o ≡ member.Other → callee_by c s o.0 ≡ None
-  none_by o None b e = refl
-  none_by o (Some class.Array) b e = refl
-  none_by o (Some class.Plain) b e = refl
-  none_by o (Some class.Function) None e = cc
-  none_by o (Some class.Function) (Some b) e = cc
-  none_by o (Some class.Arguments) b e = refl
-  none_by o (Some class.Error) b e = refl
-  none_by o (Some class.Math) b e = refl
+  host_by : (o : ℕ) (c : Option Class) (b : Option BuiltIn) (host : Name) → b ≡ which o → host_call_by c b hosts o ≡ Some host → callee_by c s o ≡ Some (state.HostCall host)
+  host_by o None b host h e = cc
+  host_by o (Some class.Array) b host h e = cc
+  host_by o (Some class.Plain) b host h e = cc
+  host_by o (Some class.Function) None host h e =
+      sym (ap (λ b. function_callee b s.bodies o) h) ∙ (callee_is hosts o ∙ ap (option_map state.HostCall) e)
+  host_by o (Some class.Function) (Some b) host h e = cc
+  host_by o (Some class.Arguments) b host h e = cc
+  host_by o (Some class.Error) b host h e = cc
+  host_by o (Some class.Math) b host h e = cc
 
-  no_function : (f : Value) → function_in heap f ≡ member.Other → callee_of s f ≡ None
-  no_function value.Undefined e = refl
-  no_function value.Null e = refl
-  no_function (value.Bool b) e = refl
-  no_function (value.Num n) e = refl
-  no_function (value.Str text) e = refl
-  no_function (value.Object o) e = none_by o (class_of heap o.0) (which o.0) e
+  host_entered : (o : ObjectId) (host : Name) → host_call_in heap hosts o.0 ≡ Some host → callee_of s (value.Object o) ≡ Some (state.HostCall host)
+  host_entered o host e = host_by o.0 (class_of heap o.0) (which o.0) host refl e
 
-  body_by : (p o : ObjectId) (c : Option Class) (b : Option BuiltIn) → b ≡ which p.0 → function_by c b p ≡ member.Function o → callee_by c s p.0 ≡ body_in s.bodies o.0
-  body_by p o None b h e = cc
-  body_by p o (Some class.Array) b h e = cc
-  body_by p o (Some class.Plain) b h e = cc
-  body_by p o (Some class.Function) None h e =
-      let g : p ≡ o = cc in
-      sym (ap (λ b. function_callee b s.bodies p.0) h) ∙ ap (λ p. body_in s.bodies p.0) g
-  body_by p o (Some class.Function) (Some b) h e = cc
-  body_by p o (Some class.Arguments) b h e = cc
-  body_by p o (Some class.Error) b h e = cc
-  body_by p o (Some class.Math) b h e = cc
+  none_by : (o : ℕ) (c : Option Class) (b : Option BuiltIn) → b ≡ which o → is_native_by c b ≡ false → host_call_by c b hosts o ≡ None → callee_by c s o ≡ None
+  none_by o None b h g e = refl
+  none_by o (Some class.Array) b h g e = refl
+  none_by o (Some class.Plain) b h g e = refl
+  none_by o (Some class.Function) None h g e =
+      sym (ap (λ b. function_callee b s.bodies o) h) ∙ (callee_is hosts o ∙ ap (option_map state.HostCall) e)
+  none_by o (Some class.Function) (Some b) h g e = cc
+  none_by o (Some class.Arguments) b h g e = refl
+  none_by o (Some class.Error) b h g e = refl
+  none_by o (Some class.Math) b h g e = refl
 
-  is_function : (f : Value) (o : ObjectId) → function_in heap f ≡ member.Function o → callee_of s f ≡ option_map state.HostCall (host_name hosts o.0)
-  is_function value.Undefined o e = cc
-  is_function value.Null o e = cc
-  is_function (value.Bool b) o e = cc
-  is_function (value.Num n) o e = cc
-  is_function (value.Str text) o e = cc
-  is_function (value.Object p) o e = body_by p o (class_of heap p.0) (which p.0) refl e ∙ callee_is hosts o.0
+  none_entered : (o : ObjectId) → is_native heap o.0 ≡ false → host_call_in heap hosts o.0 ≡ None → callee_of s (value.Object o) ≡ None
+  none_entered o g e = none_by o.0 (class_of heap o.0) (which o.0) refl g e
 
-  -- what a call enters: the value of the property
-  abbrev callee_in : Value → Name → Option Callee
-  callee_in (value.Object b) name = callee_of s (or_undefined (value_read no_names (get heap b.0 name)))
-  callee_in v name = None
+  -- a value that is no object is not entered
+  no_callee : (f : Value) → member_of f ≡ member.Other → callee_of s f ≡ None
+  no_callee value.Undefined e = refl
+  no_callee value.Null e = refl
+  no_callee (value.Bool b) e = refl
+  no_callee (value.Num n) e = refl
+  no_callee (value.Str text) e = refl
+  no_callee (value.Object o) e = cc
 
-  not_called : (base : Value) (name : Name) → member_in heap base name ≡ member.Other → callee_in base name ≡ None
-  not_called value.Undefined name e = cc
-  not_called value.Null name e = cc
-  not_called (value.Bool b) name e = cc
-  not_called (value.Num n) name e = cc
-  not_called (value.Str text) name e = cc
-  not_called (value.Object b) name e = no_function (or_undefined (value_read no_names (get heap b.0 name))) e
-
-  called_as : (base : Value) (name : Name) (o : ObjectId) → member_in heap base name ≡ member.Function o → callee_in base name ≡ option_map state.HostCall (host_name hosts o.0)
-  called_as value.Undefined name o e = cc
-  called_as value.Null name o e = cc
-  called_as (value.Bool b) name o e = cc
-  called_as (value.Num n) name o e = cc
-  called_as (value.Str text) name o e = cc
-  called_as (value.Object b) name o e = is_function (or_undefined (value_read no_names (get heap b.0 name))) o e
-
-  host_by : (m : Member) (base : Value) (name host : Name) → m ≡ member_in heap base name → host_of hosts m ≡ Some host → callee_in base name ≡ Some (state.HostCall host)
-  host_by (member.Function o) base name host e h = called_as base name o (sym e) ∙ ap (option_map state.HostCall) h
-  host_by member.Other base name host e h = cc
-  host_by member.Unbuilt base name host e h = cc
-
-  pub host_called : (base : Value) (name host : Name) → host_of hosts (member_in heap base name) ≡ Some host → callee_in base name ≡ Some (state.HostCall host)
-  host_called base name host h = host_by (member_in heap base name) base name host refl h
-
-  pub none_called : (base : Value) (name : Name) (o : ObjectId) → member_in heap base name ≡ member.Function o → host_name hosts o.0 ≡ None → callee_in base name ≡ None
-  none_called base name o e h = called_as base name o e ∙ ap (option_map state.HostCall) h
+is_object_of : (f : Value) (o : ObjectId) → member_of f ≡ member.Object o → f ≡ value.Object o
+is_object_of value.Undefined o e = cc
+is_object_of value.Null o e = cc
+is_object_of (value.Bool b) o e = cc
+is_object_of (value.Num n) o e = cc
+is_object_of (value.Str text) o e = cc
+is_object_of (value.Object p) o e = cc
 
 module _ (n : ℕ) (fs : List Frame) (vs : List Value) (heap : Heap) (hosts : List HostCall) (beats steps : ℕ) (out : Outside) where
   -- ---- where the callee is begun
@@ -197,54 +173,23 @@ module _ (n : ℕ) (fs : List Frame) (vs : List Value) (heap : Heap) (hosts : Li
   unfolding in_arguments rest
   next_more i callee e es h = ap (λ more. running (arguments more script_env (arguments_on i vs) (member_called (dot_name (expr callee)) (base_on i vs))) n fs (below (without i vs)) heap hosts beats steps out) h
 
-  -- ---- the call
+  -- ---- the call and the entry
 
-  -- what is not called throws
-  throws : (b : ObjectId) (name : Name) (args ws : List Value) → callee_in heap hosts beats steps out (value.Object b) name ≡ None
-      → running (member_called (Some name) (value.Object b) args) n fs ws heap hosts beats steps out ≡ rest control.Throw n fs (object_value (length heap) ∷ ws) (heap ++ error_object built.TypeErrorPrototype ∷ []) hosts beats steps out
+  abbrev refusing : State → Value → Value → List Value → List Value → Option Callee → Trace
+  refusing s f this args ws callee =
+      if_entered (entered callee this args) (λ p. due out.world n p (Ret ∷ stack fs ws) s)
+      (go out.world (due out.world n) (Ret (Ends (completion.Throw (object_value (length heap))))) (pop out.world (due out.world n) (stack fs ws)) (stack fs ws) (with_object (error_object built.TypeErrorPrototype) s))
+
+  -- what has no callee throws
+  throws : (f this : Value) (args ws : List Value) → callee_of (state_of heap hosts beats steps out) f ≡ None
+      → running (Enter f this args Ret) n fs ws heap hosts beats steps out ≡ rest control.Throw n fs (object_value (length heap) ∷ ws) (heap ++ error_object built.TypeErrorPrototype ∷ []) hosts beats steps out
   unfolding rest
-  throws b name args ws e =
-      let s = state_of heap hosts beats steps out in
-      ap (λ c. if_entered (entered c (value.Object b) args) (λ p. due out.world n p (Ret ∷ stack fs ws) s)
-      (go out.world (due out.world n) (Ret (Rattle.js_machine.specs.Asks.Ends (Rattle.exceptions_core.specs.declared.completion.Completion.TheVariants.Throw (object_value (length heap)))))
-      (pop out.world (due out.world n) (stack fs ws)) (stack fs ws) (with_object (error_object built.TypeErrorPrototype) s))) e
-
-  other_on : (base : Value) (name : Name) (args ws : List Value) → member_in heap base name ≡ member.Other
-      → running (member_called (Some name) base args) n fs ws heap hosts beats steps out ≡ rest control.Throw n fs (object_value (length heap) ∷ ws) (heap ++ error_object built.TypeErrorPrototype ∷ []) hosts beats steps out
-  other_on value.Undefined name args ws e = cc
-  other_on value.Null name args ws e = cc
-  other_on (value.Bool b) name args ws e = cc
-  other_on (value.Num n) name args ws e = cc
-  other_on (value.Str text) name args ws e = cc
-  other_on (value.Object b) name args ws e = throws b name args ws (not_called heap hosts beats steps out (value.Object b) name e)
-
-  function_on : (base : Value) (name : Name) (o : ObjectId) (args ws : List Value) → member_in heap base name ≡ member.Function o → host_name hosts o.0 ≡ None
-      → running (member_called (Some name) base args) n fs ws heap hosts beats steps out ≡ rest control.Throw n fs (object_value (length heap) ∷ ws) (heap ++ error_object built.TypeErrorPrototype ∷ []) hosts beats steps out
-  function_on value.Undefined name o args ws e h = cc
-  function_on value.Null name o args ws e h = cc
-  function_on (value.Bool b) name o args ws e h = cc
-  function_on (value.Num n) name o args ws e h = cc
-  function_on (value.Str text) name o args ws e h = cc
-  function_on (value.Object b) name o args ws e h = throws b name args ws (none_called heap hosts beats steps out (value.Object b) name o e h)
+  throws f this args ws e = ap (refusing (state_of heap hosts beats steps out) f this args ws) e
 
   -- a host call is entered with a step
-  asks_host : (b : ObjectId) (name host : Name) (args ws : List Value) → callee_in heap hosts beats steps out (value.Object b) name ≡ Some (state.HostCall host)
-      → running (member_called (Some name) (value.Object b) args) n fs ws heap hosts beats steps out ≡ due out.world n (TellCall host args gives) (Ret ∷ stack fs ws) (state_of heap hosts beats steps out)
-  asks_host b name host args ws e =
-      let s = state_of heap hosts beats steps out in
-      ap (λ c. if_entered (entered c (value.Object b) args) (λ p. due out.world n p (Ret ∷ stack fs ws) s)
-      (go out.world (due out.world n) (Ret (Rattle.js_machine.specs.Asks.Ends (Rattle.exceptions_core.specs.declared.completion.Completion.TheVariants.Throw (object_value (length heap)))))
-      (pop out.world (due out.world n) (stack fs ws)) (stack fs ws) (with_object (error_object built.TypeErrorPrototype) s))) e
-
-  asks_at : (base : Value) (called : Option Name) (host : Name) (args ws : List Value) → host_at heap hosts base called ≡ Some host
-      → running (member_called called base args) n fs ws heap hosts beats steps out ≡ due out.world n (TellCall host args gives) (Ret ∷ stack fs ws) (state_of heap hosts beats steps out)
-  asks_at base None host args ws h = cc
-  asks_at value.Undefined (Some name) host args ws h = cc
-  asks_at value.Null (Some name) host args ws h = cc
-  asks_at (value.Bool b) (Some name) host args ws h = cc
-  asks_at (value.Num n) (Some name) host args ws h = cc
-  asks_at (value.Str text) (Some name) host args ws h = cc
-  asks_at (value.Object b) (Some name) host args ws h = asks_host b name host args ws (host_called heap hosts beats steps out (value.Object b) name host h)
+  asks_host : (f this : Value) (host : Name) (args ws : List Value) → callee_of (state_of heap hosts beats steps out) f ≡ Some (state.HostCall host)
+      → running (Enter f this args Ret) n fs ws heap hosts beats steps out ≡ due out.world n (TellCall host args gives) (Ret ∷ stack fs ws) (state_of heap hosts beats steps out)
+  asks_host f this host args ws e = ap (refusing (state_of heap hosts beats steps out) f this args ws) e
 
   told : (k : ℕ) (host : Name) (args ws : List Value) (v : Value) → n ≡ suc k → reply out.world out.called host ≡ v
       → due out.world n (TellCall host args gives) (Ret ∷ stack fs ws) (state_of heap hosts beats steps out)
@@ -254,24 +199,54 @@ module _ (n : ℕ) (fs : List Frame) (vs : List Value) (heap : Heap) (hosts : Li
       ap (λ m. due out.world m (TellCall host args gives) (Ret ∷ stack fs ws) (state_of heap hosts beats steps out)) e
       ∙ ap (λ v. Say (Call host (shown_of_all out.passed args)) (suc steps) (rest control.Give k fs (v ∷ ws) heap hosts beats (suc steps) (after_call host args out))) f
 
-  pub host_tells : (i : ℕ) (callee : Expr) (host : Name) (v : Value) → host_at heap hosts (base_on i vs) (dot_name (expr callee)) ≡ Some host → (n ≡ 0 → ⊥) → reply out.world out.called host ≡ v
-      → Tells (Call host (shown_of_all out.passed (arguments_on i vs))) (rest (control.Call i callee) n fs vs heap hosts beats steps out) (rest control.Give (n - 1) fs (v ∷ below (without i vs)) heap hosts beats (steps + 1) (after_call host (arguments_on i vs) out))
+  pub host_tells : (count : ℕ) (o : ObjectId) (host : Name) (v : Value) → host_call_in heap hosts o.0 ≡ Some host → (n ≡ 0 → ⊥) → reply out.world out.called host ≡ v
+      → Tells (Call host (shown_of_all out.passed (arguments_on count vs))) (rest (control.Enter count o) n fs vs heap hosts beats steps out) (rest control.Give (n - 1) fs (v ∷ below (without count vs)) heap hosts beats (steps + 1) (after_call host (arguments_on count vs) out))
   unfolding rest
-  host_tells i callee host v h e f =
+  host_tells count o host v h e f =
       let left : n ≡ suc (n - 1) = omega arith in
       let more : suc steps ≡ steps + 1 = omega arith in (
         suc steps,
-        asks_at (base_on i vs) (dot_name (expr callee)) host (arguments_on i vs) (below (without i vs)) h
-            ∙ (told (n - 1) host (arguments_on i vs) (below (without i vs)) v left f
-            ∙ ap (λ k. Say (Call host (shown_of_all out.passed (arguments_on i vs))) (suc steps) (rest control.Give (n - 1) fs (v ∷ below (without i vs)) heap hosts beats k (after_call host (arguments_on i vs) out))) more),
+        asks_host (value.Object o) (base_on count vs) host (arguments_on count vs) (below (without count vs)) (host_entered heap hosts beats steps out o host h)
+            ∙ (told (n - 1) host (arguments_on count vs) (below (without count vs)) v left f
+            ∙ ap (λ k. Say (Call host (shown_of_all out.passed (arguments_on count vs))) (suc steps) (rest control.Give (n - 1) fs (v ∷ below (without count vs)) heap hosts beats k (after_call host (arguments_on count vs) out))) more),
       )
 
-  pub host_out : (i : ℕ) (callee : Expr) (host : Name) → host_at heap hosts (base_on i vs) (dot_name (expr callee)) ≡ Some host → n ≡ 0
-      → rest (control.Call i callee) n fs vs heap hosts beats steps out ≡ rest (control.End end.OutOfSteps) n fs vs heap hosts beats steps out
+  pub host_out : (count : ℕ) (o : ObjectId) (host : Name) → host_call_in heap hosts o.0 ≡ Some host → n ≡ 0
+      → rest (control.Enter count o) n fs vs heap hosts beats steps out ≡ rest (control.End end.OutOfSteps) n fs vs heap hosts beats steps out
   unfolding rest
-  host_out i callee host h e =
-      asks_at (base_on i vs) (dot_name (expr callee)) host (arguments_on i vs) (below (without i vs)) h
-      ∙ ap (λ m. due out.world m (TellCall host (arguments_on i vs) gives) (Ret ∷ stack fs (below (without i vs))) (state_of heap hosts beats steps out)) e
+  host_out count o host h e =
+      asks_host (value.Object o) (base_on count vs) host (arguments_on count vs) (below (without count vs)) (host_entered heap hosts beats steps out o host h)
+      ∙ ap (λ m. due out.world m (TellCall host (arguments_on count vs) gives) (Ret ∷ stack fs (below (without count vs))) (state_of heap hosts beats steps out)) e
+
+  pub e_other : (count : ℕ) (o : ObjectId) → is_native heap o.0 ≡ false → host_call_in heap hosts o.0 ≡ None
+      → rest (control.Enter count o) n fs vs heap hosts beats steps out ≡ rest control.Throw n fs (object_value (length heap) ∷ below (without count vs)) (heap ++ error_object built.TypeErrorPrototype ∷ []) hosts beats steps out
+  unfolding rest
+  e_other count o g h = throws (value.Object o) (base_on count vs) (arguments_on count vs) (below (without count vs)) (none_entered heap hosts beats steps out o g h)
+
+  pub e_unbuilt : (count : ℕ) (o : ObjectId) → rest (control.Enter count o) n fs vs heap hosts beats steps out ≡ rest (control.Unbuilt (unbuilt.Enter count o)) n fs vs heap hosts beats steps out
+  unfolding rest
+  e_unbuilt count o = refl
+
+  other_on : (base : Value) (name : Name) (args ws : List Value) → member_in heap base name ≡ member.Other
+      → running (member_called (Some name) base args) n fs ws heap hosts beats steps out ≡ rest control.Throw n fs (object_value (length heap) ∷ ws) (heap ++ error_object built.TypeErrorPrototype ∷ []) hosts beats steps out
+  other_on value.Undefined name args ws e = cc
+  other_on value.Null name args ws e = cc
+  other_on (value.Bool b) name args ws e = cc
+  other_on (value.Num n) name args ws e = cc
+  other_on (value.Str text) name args ws e = cc
+  other_on (value.Object b) name args ws e =
+      let f = or_undefined (value_read no_names (get heap b.0 name)) in
+      throws f (value.Object b) args ws (no_callee heap hosts beats steps out f e)
+
+  object_on : (base : Value) (name : Name) (o : ObjectId) (args ws : List Value) → member_in heap base name ≡ member.Object o
+      → running (member_called (Some name) base args) n fs ws heap hosts beats steps out ≡ running (Enter (value.Object o) base args Ret) n fs ws heap hosts beats steps out
+  object_on value.Undefined name o args ws e = cc
+  object_on value.Null name o args ws e = cc
+  object_on (value.Bool b) name o args ws e = cc
+  object_on (value.Num n) name o args ws e = cc
+  object_on (value.Str text) name o args ws e = cc
+  object_on (value.Object b) name o args ws e =
+      ap (λ f. running (Enter f (value.Object b) args Ret) n fs ws heap hosts beats steps out) (is_object_of (or_undefined (value_read no_names (get heap b.0 name))) o e)
 
   pub c_none : (i : ℕ) (callee : Expr) → dot_name (expr callee) ≡ None → rest (control.Call i callee) n fs vs heap hosts beats steps out ≡ rest control.Done n fs (below (without i vs)) heap hosts beats steps out
   unfolding rest
@@ -284,29 +259,28 @@ module _ (n : ℕ) (fs : List Frame) (vs : List Value) (heap : Heap) (hosts : Li
       ap (λ q. running (member_called (dot_name q) (base_on i vs) (arguments_on i vs)) n fs (below (without i vs)) heap hosts beats steps out) e
       ∙ other_on (base_on i vs) name (arguments_on i vs) (below (without i vs)) h
 
-  pub c_function : (i : ℕ) (callee object : Expr) (name : Name) (o : ObjectId) → expr callee ≡ tree.Dot (expr object) name → member_in heap (base_on i vs) name ≡ member.Function o → host_at heap hosts (base_on i vs) (dot_name (expr callee)) ≡ None
-      → rest (control.Call i callee) n fs vs heap hosts beats steps out ≡ rest control.Throw n fs (object_value (length heap) ∷ below (without i vs)) (heap ++ error_object built.TypeErrorPrototype ∷ []) hosts beats steps out
+  pub c_object : (i : ℕ) (callee object : Expr) (name : Name) (o : ObjectId) → expr callee ≡ tree.Dot (expr object) name → member_in heap (base_on i vs) name ≡ member.Object o
+      → rest (control.Call i callee) n fs vs heap hosts beats steps out ≡ rest (control.Enter i o) n fs vs heap hosts beats steps out
   unfolding rest
-  c_function i callee object name o e h g =
+  c_object i callee object name o e h =
       ap (λ q. running (member_called (dot_name q) (base_on i vs) (arguments_on i vs)) n fs (below (without i vs)) heap hosts beats steps out) e
-      ∙ function_on (base_on i vs) name o (arguments_on i vs) (below (without i vs)) h
-      (sym (ap (host_of hosts) h) ∙ (sym (ap (λ q. host_at heap hosts (base_on i vs) (dot_name q)) e) ∙ g))
+      ∙ object_on (base_on i vs) name o (arguments_on i vs) (below (without i vs)) h
 
   pub c_unbuilt : (i : ℕ) (callee : Expr) → rest (control.Call i callee) n fs vs heap hosts beats steps out ≡ rest (control.Unbuilt (unbuilt.Call i callee)) n fs vs heap hosts beats steps out
   unfolding rest
   c_unbuilt i callee = refl
 
-pub calls_unbuilt : (heap : Heap) (vs : List Value) (i : ℕ) (callee object : Expr) (name : Name) → expr callee ≡ tree.Dot (expr object) name → member_in heap (base_on i vs) name ≡ member.Unbuilt → Rattle.js_machine.specs.NotBuilt.CallsUnbuilt heap vs i (dot_name (expr callee))
+pub calls_unbuilt : (heap : Heap) (vs : List Value) (i : ℕ) (callee object : Expr) (name : Name) → expr callee ≡ tree.Dot (expr object) name → member_in heap (base_on i vs) name ≡ member.Unbuilt → CallsUnbuilt heap vs i (dot_name (expr callee))
 calls_unbuilt heap vs i callee object name e h =
-    let P : tree.Expr → Type 0 = λ q. Rattle.js_machine.specs.NotBuilt.CallsUnbuilt heap vs i (dot_name q) in
+    let P : tree.Expr → Type 0 = λ q. CallsUnbuilt heap vs i (dot_name q) in
     subst P (sym e) h
 
 -- the machine asked the host
-pub host_asked : (m new : Machine) (given told : List Asked) (count : ℕ) (callee : Expr) (host : Name) (args values : List Value) (v : Value) (clock : ℕ × ℕ) (next : Control)
-    → host_due m count (dot_name (expr callee)) ≡ Some host → (m.clock.1 ≡ 0 → ⊥) → args ≡ arguments_on count m.values → told ≡ given ++ Called host args v ∷ []
+pub host_asked : (m new : Machine) (given told : List Asked) (count : ℕ) (o : ObjectId) (host : Name) (args values : List Value) (v : Value) (clock : ℕ × ℕ) (next : Control)
+    → host_call_in m.heap m.hosts o.0 ≡ Some host → (m.clock.1 ≡ 0 → ⊥) → args ≡ arguments_on count m.values → told ≡ given ++ Called host args v ∷ []
     → clock ≡ (m.clock.0 + 1, m.clock.1 - 1) → values ≡ below (without count m.values) → next ≡ control.Give → new ≡ record m { clock = clock; values = v ∷ values }
-    → LeadsTo (rest (control.Call count callee)) m given next new told
-host_asked m new given told count callee host args values v clock next due n e is_told is_clock is_below is_give is =
+    → LeadsTo (rest (control.Enter count o)) m given next new told
+host_asked m new given told count o host args values v clock next due n e is_told is_clock is_below is_give is =
     let passed = arguments_on count m.values in (
       Called host passed v ∷ [],
       (
@@ -315,7 +289,7 @@ host_asked m new given told count callee host args values v clock next due n e i
             let behind = after_call host passed out in (
               rest control.Give (m.clock.1 - 1) m.frames (v ∷ below (without count m.values)) m.heap m.hosts m.beats (m.clock.0 + 1) behind,
               (
-                host_tells m.clock.1 m.frames m.values m.heap m.hosts m.beats m.clock.0 out count callee host v due n answers.0,
+                host_tells m.clock.1 m.frames m.values m.heap m.hosts m.beats m.clock.0 out count o host v due n answers.0,
                 sym (ap (λ c. at (rest c) new behind) is_give
                     ∙ (ap (λ x. at (rest control.Give) x behind) is
                     ∙ (ap (λ c. rest control.Give c.1 m.frames (v ∷ values) m.heap m.hosts m.beats c.0 behind) is_clock
@@ -325,27 +299,14 @@ host_asked m new given told count callee host args values v clock next due n e i
       ),
     )
 
--- ---- the host call that is due
+-- ---- the host call that an object is
 
-module _ (m : Machine) (count : ℕ) (callee : tree.Expr) where
-  pub due_none : dot_name callee ≡ None → host_due m count (dot_name callee) ≡ None
-  due_none e = ap (host_due m count) e
-
-  due_is : (object : tree.Expr) (name : Name) (what : Member) → callee ≡ tree.Dot object name → what ≡ member_in m.heap (base_on count m.values) name → host_due m count (dot_name callee) ≡ host_of m.hosts what
-  due_is object name what e h = ap (λ q. host_due m count (dot_name q)) e ∙ sym (ap (host_of m.hosts) h)
-
-  pub due_function : (object : tree.Expr) (name : Name) (o : ObjectId) (found : Option Name) → callee ≡ tree.Dot object name → member.Function o ≡ member_in m.heap (base_on count m.values) name → host_name m.hosts o.0 ≡ found → host_due m count (dot_name callee) ≡ found
-  due_function object name o found e h f = due_is object name (member.Function o) e h ∙ f
-
-  pub due_other : (object : tree.Expr) (name : Name) → callee ≡ tree.Dot object name → member.Other ≡ member_in m.heap (base_on count m.values) name → host_due m count (dot_name callee) ≡ None
-  due_other object name e h = due_is object name member.Other e h
-
-  pub due_unbuilt : (object : tree.Expr) (name : Name) → callee ≡ tree.Dot object name → member.Unbuilt ≡ member_in m.heap (base_on count m.values) name → host_due m count (dot_name callee) ≡ None
-  due_unbuilt object name e h = due_is object name member.Unbuilt e h
+pub name_is : (heap : Heap) (hosts : List HostCall) (o : ℕ) (name : Option Name) → Some class.Function ≡ class_of heap o → None ≡ which o → host_name hosts o ≡ name → host_call_in heap hosts o ≡ name
+name_is heap hosts o name c b e =
+    sym (ap (λ c. host_call_by c (which o) hosts o) c)
+    ∙ (sym (ap (λ b. host_call_by (Some class.Function) b hosts o) b) ∙ e)
 
 -- ---- the cases of one call each
-
-pub ruleset due_laws = (due_none, due_function, due_other, due_unbuilt)
 
 pub ruleset call_laws = (call_out, call_on)
 
@@ -355,4 +316,8 @@ pub ruleset base_laws = (base_bad, base_ok)
 
 pub ruleset given_laws = (argument_ok)
 
-pub ruleset other_laws = (c_none, c_other, c_function, c_unbuilt, calls_unbuilt)
+pub ruleset member_laws = (c_none, c_other, c_object, c_unbuilt, calls_unbuilt)
+
+pub ruleset other_laws = (e_other, e_unbuilt)
+
+pub ruleset name_laws = (name_is)

@@ -1,9 +1,8 @@
 -- Calls of properties of objects, once their base and their arguments have values (ES3 11.2.3).
 use Rattle.std.specs.Prelude.{ℕ, Bool, true, false}
-use Rattle.std.specs.Prelude.{List, Option, Some, None, reverse, take}
+use Rattle.std.specs.Prelude.{List, Option, Some, None, is_some, reverse, take}
 use Rattle.js_values.specs.declared.value.Value.{Value}
 use Rattle.js_values.specs.declared.value.Value.TheVariants as value
-use Rattle.js_values.specs.declared.value.ObjectId.{ObjectId}
 use Rattle.object_heap.specs.declared.built_in.BuiltIn.{BuiltIn}
 use Rattle.object_heap.specs.declared.object.Class.{Class}
 use Rattle.object_heap.specs.declared.object.Class.TheVariants as class
@@ -17,10 +16,7 @@ use Rattle.js_machine.specs.declared.calls.Member.{Member}
 use Rattle.js_machine.specs.declared.calls.Member.TheVariants as member
 use Rattle.js_machine.specs.Asks.{Program, Enter, Ret}
 use Rattle.js_machine.specs.Frames.{done}
-use Rattle.js_machine.specs.declared.hosts.HostCall.{HostCall}
-use Rattle.js_machine.specs.declared.machine.Machine.{Machine}
 use Rattle.js_machine.specs.Globals.{no_names}
-use Rattle.js_machine.specs.HostCalls.{host_name}
 use Rattle.js_machine.specs.References.{get_on, or_undefined}
 use Rattle.js_machine.specs.Stacks.{top, without}
 use Rattle.js_machine.specs.State.{value_read}
@@ -71,32 +67,21 @@ base_on count vs = top (without count vs)
 
 -- ---- what a property holds, for a call
 
-abbrev pub function_by : Option Class → Option BuiltIn → ObjectId → Member
-function_by (Some class.Function) None o = member.Function o
-function_by (Some class.Function) (Some b) o = member.Unbuilt
-function_by _ b o = member.Other
-
-abbrev pub function_in : Heap → Value → Member
-function_in heap (value.Object o) = function_by (class_of heap o.0) (which o.0) o
-function_in heap _ = member.Other
+abbrev pub member_of : Value → Member
+member_of (value.Object o) = member.Object o
+member_of _ = member.Other
 
 -- a property of a primitive value is not built
 abbrev pub member_in : Heap → Value → Name → Member
 member_in heap (value.Object o) name =
-    function_in heap (or_undefined (value_read no_names (get heap o.0 name)))
+    member_of (or_undefined (value_read no_names (get heap o.0 name)))
 member_in heap _ name = member.Unbuilt
 
--- ---- the host call that is due, if it is one
+-- ---- functions of the start
 
-abbrev pub host_of : List HostCall → Member → Option Name
-host_of hosts (member.Function o) = host_name hosts o.0
-host_of hosts member.Other = None
-host_of hosts member.Unbuilt = None
+abbrev pub is_native_by : Option Class → Option BuiltIn → Bool
+is_native_by (Some class.Function) b = is_some b
+is_native_by _ b = false
 
--- it stands as a property of this base
-abbrev pub host_at : Heap → List HostCall → Value → Option Name → Option Name
-host_at heap hosts base None = None
-host_at heap hosts base (Some name) = host_of hosts (member_in heap base name)
-
-abbrev pub host_due : Machine → ℕ → Option Name → Option Name
-host_due m count name = host_at m.heap m.hosts (base_on count m.values) name
+abbrev pub is_native : Heap → ℕ → Bool
+is_native heap o = is_native_by (class_of heap o) (which o)

@@ -18,7 +18,7 @@ use Rattle.js_machine.specs.declared.machine.Machine.{Machine}
 use Rattle.js_machine.specs.Operated.{is_object, operated}
 use Rattle.js_machine.specs.Globals.{name_in, unary_of, value_of_global}
 use Rattle.js_machine.specs.declared.calls.Member.TheVariants as member
-use Rattle.js_machine.specs.Members.{base_on, dot_name, member_in}
+use Rattle.js_machine.specs.Members.{base_on, dot_name, is_native, member_in}
 use Rattle.js_machine.specs.Built.{is_begun, is_built_expression, is_built_statement}
 use Rattle.js_machine.specs.Stacks.{top, below}
 
@@ -64,7 +64,7 @@ abbrev pub names_object : Heap → Option Name → Bool
 names_object heap None = false
 names_object heap (Some name) = holds_object (value_of_global heap name)
 
--- the property holds a function of the start, or is one of a primitive value
+-- the property is one of a primitive value
 abbrev pub CallsUnbuilt : Heap → List Value → ℕ → Option Name → Type 0
 CallsUnbuilt heap vs count None = ⊥
 CallsUnbuilt heap vs count (Some name) = member_in heap (base_on count vs) name ≡ member.Unbuilt
@@ -81,6 +81,8 @@ IsNotBuilt (unbuilt.Change op gives_new target) m =
     names_object m.heap (name_in (expr target)) ≡ true
 IsNotBuilt (unbuilt.Call count callee) m =
     CallsUnbuilt m.heap m.values count (dot_name (expr callee))
+-- a function of the start
+IsNotBuilt (unbuilt.Enter count o) m = is_native m.heap o.0 ≡ true
 
 -- the machine says that something is not built only where that is so
 abbrev pub StopsRightly : Control → Machine → Type 0
@@ -88,6 +90,7 @@ StopsRightly (control.Expr e) m = Unit {0}
 StopsRightly (control.Stmt s) m = Unit {0}
 StopsRightly (control.Body s) m = Unit {0}
 StopsRightly (control.Call count callee) m = Unit {0}
+StopsRightly (control.Enter count o) m = Unit {0}
 StopsRightly control.Give m = Unit {0}
 StopsRightly control.Done m = Unit {0}
 StopsRightly control.Break m = Unit {0}

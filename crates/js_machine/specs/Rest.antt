@@ -2,7 +2,9 @@
 use Rattle.std.specs.Prelude.{◌≡◌, ◌≤◌, ℕ, ◌+◌, ◌*◌, Bool, if◌then◌else◌}
 use Rattle.std.specs.Prelude.{List, [], ◌∷◌, ◌++◌, length, map, Option, Some, None}
 use Rattle.js_values.specs.declared.number.Num.{Num}
+use Rattle.js_values.specs.declared.value.ObjectId.{ObjectId}
 use Rattle.js_values.specs.declared.value.Value.{Value}
+use Rattle.js_values.specs.declared.value.Value.TheVariants as value
 use Rattle.js_values.specs.Shown.{Passed}
 use Rattle.js_values.specs.Values.{truth_of}
 use Rattle.exceptions_core.specs.declared.completion.Completion.TheVariants as completion
@@ -30,7 +32,7 @@ use Rattle.js_machine.specs.declared.frame.End.TheVariants as end
 use Rattle.js_machine.specs.declared.frame.Over.{Over}
 use Rattle.js_machine.specs.declared.frame.Over.TheVariants as over
 use Rattle.js_machine.specs.declared.frame.Unbuilt.TheVariants as unbuilt
-use Rattle.js_machine.specs.Asks.{Program, Tail, Turn, CountTurn, Outcome, Gives}
+use Rattle.js_machine.specs.Asks.{Program, Tail, Turn, CountTurn, Outcome, Gives, Enter, Ret}
 use Rattle.js_machine.specs.Asks.{Ends, AnExpr, AStmt, ATurn, Loop}
 use Rattle.js_machine.specs.Frames.{gives, done, on_value, value_of, after_statement, at_frame}
 use Rattle.js_machine.specs.Operators.{operate}
@@ -208,11 +210,18 @@ calling count callee n fs vs = running
     (member_called (dot_name (expr callee)) (base_on count vs) (arguments_on count vs))
     n fs (below (without count vs))
 
+-- the entry of an object, with so many arguments above its `this`
+abbrev pub entering : ℕ → ObjectId → Left
+entering count o n fs vs = running
+    (Enter (value.Object o) (base_on count vs) (arguments_on count vs) Ret)
+    n fs (below (without count vs))
+
 unfoldable pub rest : Control → Left
 rest (control.Expr e) = starting (program (AnExpr (expr e)) script_env)
 rest (control.Stmt s) = starting (program (AStmt [] (stmt s)) script_env)
 rest (control.Body s) = starting (program (ATurn (stmt s)) script_env)
 rest (control.Call count callee) = calling count callee
+rest (control.Enter count o) = entering count o
 rest control.Give = popped_with Gives
 rest control.Done = popped (Ends completion.Normal)
 rest control.Break = popped (Ends (completion.Break None))
@@ -228,6 +237,7 @@ rest (control.Unbuilt (unbuilt.Script ss)) = starting (enter_script (view.body s
 rest (control.Unbuilt (unbuilt.Change op gives_new target)) =
     running (changing op gives_new (name_in (expr target)))
 rest (control.Unbuilt (unbuilt.Call count callee)) = calling count callee
+rest (control.Unbuilt (unbuilt.Enter count o)) = entering count o
 
 -- ---- inside a node whose step was taken
 
@@ -319,18 +329,19 @@ abbrev pub weight : Control → ℕ
 weight (control.Expr e) = 1
 weight (control.Stmt s) = 1
 weight (control.Body s) = 1
-weight (control.Call count callee) = 5
-weight control.Give = 4
-weight control.Done = 4
-weight control.Break = 4
-weight control.Continue = 4
-weight control.Throw = 4
+weight (control.Call count callee) = 7
+weight (control.Enter count o) = 6
+weight control.Give = 5
+weight control.Done = 5
+weight control.Break = 5
+weight control.Continue = 5
+weight control.Throw = 5
 weight (control.End e) = 0
 weight (control.Unbuilt u) = 0
 
 abbrev pub measure : Control → Machine → ℕ
-measure next m = 8 * m.clock.1 + 2 * length m.frames + weight next
+measure next m = 10 * m.clock.1 + 3 * length m.frames + weight next
 
 -- the machine goes on no longer than old with two frames more
 abbrev pub Falls : Machine → Control → Machine → Type 0
-Falls old next new = measure next new ≤ 8 * old.clock.1 + 2 * length old.frames + 5
+Falls old next new = measure next new ≤ 10 * old.clock.1 + 3 * length old.frames + 7

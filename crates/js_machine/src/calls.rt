@@ -7,8 +7,8 @@ ghost use Rattle.js_tree.specs.Tree as tree;
 ghost use Rattle.js_code.specs.Cursors.{exprs_from};
 ghost use Rattle.js_machine.specs.Given.{LeadsTo};
 ghost use Rattle.js_machine.specs.Built.{is_dot};
-ghost use Rattle.js_machine.specs.Members.{base_on, dot_name, function_in, host_due, is_base};
-ghost use Rattle.js_machine.specs.Members.{member_in};
+ghost use Rattle.js_machine.specs.HostCalls.{host_call_in};
+ghost use Rattle.js_machine.specs.Members.{base_on, dot_name, is_base, is_native, member_in};
 ghost use Rattle.js_machine.specs.NotBuilt.{StopsRightly};
 ghost use Rattle.js_machine.specs.Rest.{Falls, Same, in_arguments, in_expr, in_value, measure};
 ghost use Rattle.js_machine.specs.References.{error_object};
@@ -28,12 +28,10 @@ use std::alloc::AllocError;
 /// What a property holds, for a call.
 #[derive(Clone, Copy)]
 pub enum Member {
-    /// A function that was not there at the start.
-    Function(ObjectId),
-    /// What is no function.
+    Object(ObjectId),
+    /// What is no object.
     Other,
-    /// What the machine does not call yet: a function of the start, or a property of a primitive
-    /// value.
+    /// A property of a primitive value, which the machine does not read yet.
     Unbuilt,
 }
 
@@ -172,45 +170,16 @@ impl Machine {
         self.next_argument(i + 1, callee, arguments)
     }
 
-    /// What a value is, for a call.
-    fn function_of(&self, v: &Value) -> Member
-        ensures { result ≡ function_in self.now.heap v.now }
-    {
-        match v {
-            Value::Object(o) => match (self.heap.class(*o), self.heap.which(*o)) {
-                (Some(Class::Function), None) => Member::Function(*o),
-                (Some(Class::Function), Some(_)) => Member::Unbuilt,
-                _ => Member::Other,
-            },
-            _ => Member::Other,
-        }
-    }
-
     /// What a property holds of the base that stands under so many arguments.
     fn member(&self, count: u32, name: &Units) -> Member
         ensures { result ≡ member_in self.now.heap (base_on count self.now.values) name.now }
     {
         match self.values.under(count as usize) {
             Some(Value::Object(o)) => match self.heap.get(*o, name) {
-                Some(Prop::Own(v)) => self.function_of(v),
+                Some(Prop::Own(Value::Object(f))) => Member::Object(*f),
                 _ => Member::Other,
             },
             _ => Member::Unbuilt,
-        }
-    }
-
-    /// The name of the host call that is due, if it is one.
-    #[tactic(auto, using(crate::proofs::CallLaws::due_laws))]
-    fn host_due(&self, count: u32, callee: &ExprCode) -> Option<&Units>
-        ensures { MatchOption result
-            (host_due self.now count (dot_name (expr callee.now)) ≡ None)
-            (λ name. host_due self.now count (dot_name (expr callee.now)) ≡ Some name.now) }
-    {
-        let (_, name) = dot_of(callee)?;
-        match self.member(count, name) {
-            Member::Function(o) => self.hosts.name(o.0),
-            Member::Other => None,
-            Member::Unbuilt => None,
         }
     }
 
@@ -228,10 +197,9 @@ impl Machine {
         self.throw_error(BuiltIn::TypeErrorPrototype)
     }
 
-    /// A property is called that holds no host call.
-    #[tactic(auto, using(crate::proofs::CallLaws::other_laws))]
-    fn call_other(&mut self, count: u32, callee: ExprCode) -> Result<Control, AllocError>
-        requires { host_due self.old count (dot_name (expr callee)) ≡ None }
+    /// The property of the base that stands under so many arguments is called.
+    #[tactic(auto, using(crate::proofs::CallLaws::member_laws))]
+    pub(crate) fn turn_call(&mut self, count: u32, callee: ExprCode) -> Result<Control, AllocError>
         ensures same { IfOk result (λ next.
             Same (rest (Control.Call count callee)) self.old next self.new) }
         ensures falls { IfOk result (λ next.
@@ -244,27 +212,65 @@ impl Machine {
             return Ok(Control::Done);
         };
         match self.member(count, name) {
-            Member::Function(_) => self.throw_at_call(count),
+            Member::Object(o) => Ok(Control::Enter(count, o)),
             Member::Other => self.throw_at_call(count),
             Member::Unbuilt => Ok(Control::Unbuilt(Unbuilt::Call(count, callee))),
         }
     }
 
-    /// The call of a property, if a step is left; host calls are asked of the world.
-    pub(crate) fn turn_call<W: Host>(
-        &mut self,
-        count: u32,
-        callee: ExprCode,
-        world: &mut W,
-    ) -> Result<Control, AllocError>
-        ensures same { IfOk result (λ next. LeadsTo (rest (Control.Call count callee))
-            self.old (W.given world.old) next self.new (W.given world.new)) }
+    /// Whether an object is a function of the start.
+    fn is_native(&self, o: ObjectId) -> bool
+        ensures { result ≡ is_native self.now.heap o.0 }
+    {
+        match self.heap.class(o) {
+            Some(Class::Function) => self.heap.which(o).is_some(),
+            _ => false,
+        }
+    }
+
+    /// The name of the host call that an object is, if it is one.
+    #[tactic(auto, using(crate::proofs::CallLaws::name_laws))]
+    fn host_call(&self, o: ObjectId) -> Option<&Units>
+        ensures { MatchOption result (host_call_in self.now.heap self.now.hosts o.0 ≡ None)
+            (λ name. host_call_in self.now.heap self.now.hosts o.0 ≡ Some name.now) }
+    {
+        match (self.heap.class(o), self.heap.which(o)) {
+            (Some(Class::Function), None) => self.hosts.name(o.0),
+            _ => None,
+        }
+    }
+
+    /// An object is entered that is no host call.
+    #[tactic(auto, using(crate::proofs::CallLaws::other_laws))]
+    fn enter_other(&mut self, count: u32, o: ObjectId) -> Result<Control, AllocError>
+        requires { host_call_in self.old.heap self.old.hosts o.0 ≡ None }
+        ensures same { IfOk result (λ next.
+            Same (rest (Control.Enter count o)) self.old next self.new) }
         ensures falls { IfOk result (λ next.
-            measure next self.new < measure (Control.Call count callee) self.old) }
+            measure next self.new < measure (Control.Enter count o) self.old) }
         ensures rightly { IfOk result (λ next. StopsRightly next self.new) }
     {
-        let Some(name) = self.host_due(count, &callee) else {
-            return self.call_other(count, callee);
+        if self.is_native(o) {
+            return Ok(Control::Unbuilt(Unbuilt::Enter(count, o)));
+        }
+        self.throw_at_call(count)
+    }
+
+    /// An object is entered, if a step is left; host calls are asked of the world.
+    pub(crate) fn turn_enter<W: Host>(
+        &mut self,
+        count: u32,
+        o: ObjectId,
+        world: &mut W,
+    ) -> Result<Control, AllocError>
+        ensures same { IfOk result (λ next. LeadsTo (rest (Control.Enter count o))
+            self.old (W.given world.old) next self.new (W.given world.new)) }
+        ensures falls { IfOk result (λ next.
+            measure next self.new < measure (Control.Enter count o) self.old) }
+        ensures rightly { IfOk result (λ next. StopsRightly next self.new) }
+    {
+        let Some(name) = self.host_call(o) else {
+            return self.enter_other(count, o);
         };
         if self.clock.left() == 0 {
             return Ok(Control::End(End::OutOfSteps));

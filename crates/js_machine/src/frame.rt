@@ -2,7 +2,7 @@
 
 use js_code::{ExprCode, ExprCodes, StmtCode, StmtCodes, VarCodes};
 use js_tree::{BinaryOp, PostfixOp, PrefixOp};
-use js_values::Reason;
+use js_values::{ObjectId, Reason};
 use std::mem::size_of;
 
 /// What waits for an outcome. It owns the newest values as far as it says so.
@@ -61,6 +61,8 @@ pub enum Control {
     Body(StmtCode),
     /// It calls this dot of the value that stands under so many arguments.
     Call(u32, ExprCode),
+    /// It enters this object, with so many arguments above its `this`.
+    Enter(u32, ObjectId),
     /// An expression gave a value.
     Give,
     /// A statement ended.
@@ -104,6 +106,8 @@ pub enum Unbuilt {
     Change(PostfixOp, bool, ExprCode),
     /// The call of this dot of the value that stands under so many arguments.
     Call(u32, ExprCode),
+    /// The entry of this object, with so many arguments above its `this`.
+    Enter(u32, ObjectId),
 }
 
 /// Why the machine does not go on.

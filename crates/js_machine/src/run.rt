@@ -162,9 +162,8 @@ impl Machine {
                 Control::Expr(e) => control = self.turn_expr(e)?,
                 Control::Stmt(s) => control = self.turn_stmt(s)?,
                 Control::Body(s) => control = self.turn_body(s)?,
-                Control::Call(count, callee) => {
-                    control = self.turn_call(count, callee, world)?;
-                }
+                Control::Call(count, callee) => control = self.turn_call(count, callee)?,
+                Control::Enter(count, o) => control = self.turn_enter(count, o, world)?,
                 Control::Give => control = self.turn_give()?,
                 Control::Done => control = self.turn_done()?,
                 Control::Break => control = self.turn_break()?,
