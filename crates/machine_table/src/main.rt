@@ -6,7 +6,7 @@
 
 mod world;
 
-ghost use Rattle.std.specs.Prelude.{◌<◌, ◌-◌, ◌^◌, length};
+ghost use Rattle.std.specs.Prelude.{◌≡◌, ◌<◌, ◌-◌, ◌^◌, length, IfOk, None};
 
 use dl_text::{Names, quote_units, text_of, units_of};
 use js_lexer::lex;
@@ -34,8 +34,10 @@ fn read(alloc: Global, text: &str) -> Result<Script, SourceError>
     Ok(parse(alloc, &tokens, &limits, Form::Source)?)
 }
 
-/// A machine without its contract, which names each object of the start.
-fn machine(alloc: Global) -> io::Result<Machine> {
+/// A machine without a task. Its whole contract names each object of the start.
+fn machine(alloc: Global) -> io::Result<Machine>
+    ensures { IfOk result (λ m. m.task ≡ None) }
+{
     let mut names = Names::new(alloc);
     names.push(units_of(alloc, "out")?)?;
     Ok(Machine::new(alloc, &names)?)
