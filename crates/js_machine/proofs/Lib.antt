@@ -21,5 +21,6 @@ pub mod HostLaws
 pub mod GivenLaws
 pub mod CallLaws
 pub mod VariableLaws
+pub mod BeginLaws
 pub mod ScriptLaws
 pub mod HaltLaws

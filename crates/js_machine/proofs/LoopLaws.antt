@@ -145,6 +145,4 @@ pub ruleset update_laws = (update_some, update_none, update_no_loop)
 
 pub ruleset test_laws = (v_test_true, v_test_false, v_test_none)
 
-pub ruleset begun = (in_while, in_do_while, in_for, in_for_first)
-
 pub ruleset loop_values = (v_turn, v_again)

@@ -151,5 +151,3 @@ module _ (n : ℕ) (fs : List Frame) (vs : List Value) (heap : Heap) (hosts : Li
 pub ruleset list_laws = (list_end, list_last, list_more, list_unbuilt)
 
 pub ruleset if_laws = (v_if_true, v_if_else, v_if_without, v_if_none)
-
-pub ruleset begun = (in_empty, in_if, in_break_statement, in_continue_statement)

@@ -210,5 +210,3 @@ pub ruleset header_laws = (header_waits, header_ends)
 pub ruleset var_laws = (v_var_none, v_var_ok)
 
 pub ruleset for_var_laws = (v_for_none, v_for_ok)
-
-pub ruleset variables_begun = (in_var, in_for_var)

@@ -175,7 +175,7 @@ impl Machine {
     }
 
     /// A statement that is built, whose step was taken.
-    #[tactic(auto, using(crate::proofs::VariableLaws::variables_begun, crate::proofs::LoopLaws::begun, crate::proofs::StatementLaws::begun))]
+    #[tactic(auto, using(crate::proofs::BeginLaws::statements_begun))]
     pub(crate) fn begin_statement(&mut self, s: StmtCode) -> Result<Control, AllocError>
         requires { is_built_statement (stmt s) ≡ true }
         ensures same { IfOk result (λ next. Same (in_stmt (stmt s)) self.old next self.new) }
