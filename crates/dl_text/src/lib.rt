@@ -86,6 +86,8 @@ mod tests {
         first.push(0x64)?;
         assert_eq!(rt; first.items(), [0x61, 0x62, 0x64].as_slice());
         assert_eq!(rt; second.items(), [0x61, 0x62, 0x63].as_slice());
+        let both = Units::joined(alloc, &second, &units_of(alloc, "d")?)?;
+        assert_eq!(rt; both.items(), [0x61, 0x62, 0x63, 0x64].as_slice());
         Ok(())
     }
 

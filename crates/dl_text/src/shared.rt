@@ -61,6 +61,22 @@ impl<T: Drop> Shared<T> {
     }
 }
 
+impl Shared<u16> {
+    /// The items of one list, and behind them those of another.
+    pub(crate) fn joined(alloc: Global, first: &[u16], second: &[u16]) -> Result<Self, AllocError>
+        ensures { IfOk result (λ list. list ≡ first.now ++ second.now) }
+    {
+        let mut items = Vec::with_capacity(alloc, first.len() + second.len())?;
+        items.extend_from_slice(first)?;
+        items.extend_from_slice(second)?;
+        let items = Rc::new(alloc, items)?;
+        Ok(Shared {
+            alloc,
+            items: Some(items),
+        })
+    }
+}
+
 impl<T: TryCopy + Drop> Shared<T> {
     /// Adds an item at the end, for this owner alone. Where there are others, it gets items of its
     /// own first.

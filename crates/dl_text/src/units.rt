@@ -1,4 +1,4 @@
-ghost use Rattle.std.specs.Prelude.{◌≡◌, ◌<◌, [], ◌∷◌, ◌++◌, OnOk, OnErr};
+ghost use Rattle.std.specs.Prelude.{◌≡◌, ◌<◌, [], ◌∷◌, ◌++◌, IfOk, OnOk, OnErr};
 ghost use Rattle.std.specs.Char.Escape.{encode_utf16};
 ghost use Rattle.std.specs.Prelude.{nat_eq};
 ghost use Rattle.std.specs.Cmp.{partial_equiv_from_equiv};
@@ -61,6 +61,14 @@ impl Units {
         }
         self.push(0xd800 + ((code_point - 0x1_0000) / 0x400) as u16)?;
         self.push(0xdc00 + ((code_point - 0x1_0000) % 0x400) as u16)
+    }
+
+    /// A text and behind it another, in a time that is linear in both.
+    pub fn joined(alloc: Global, first: &Units, second: &Units) -> Result<Units, AllocError>
+        ensures { IfOk result (λ text. text ≡ first.now ++ second.now) }
+    {
+        let units = Shared::joined(alloc, first.items(), second.items())?;
+        Ok(Units { units })
     }
 
     /// The units in order.

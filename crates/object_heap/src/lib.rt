@@ -32,6 +32,7 @@ pub use array_rows::{elements, indices, lengths};
 pub use built_in::BuiltIn;
 pub use heap::Heap;
 pub use laws::{chains_go_up, nothing_holds, prototypes_come_before};
+pub use names::{is_length, is_reserved};
 pub use object::{Attrs, Class};
 pub use rows::{definitions, deletions, reads, refused_writes, visited_names, writes};
 pub use start_rows::{

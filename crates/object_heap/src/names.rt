@@ -22,14 +22,14 @@ const LENGTH: [u16; 6] = [0x6c, 0x65, 0x6e, 0x67, 0x74, 0x68];
 const RESERVED: [u16; 4] = [0x24, 0x64, 0x6c, 0x5f];
 
 /// Whether a name is `length`.
-pub(crate) fn is_length(name: &[u16]) -> bool
+pub fn is_length(name: &[u16]) -> bool
     ensures { result ≡ names.is_same_name name.now names.length_name }
 {
     name == LENGTH.as_slice()
 }
 
-/// Whether a name begins as those do that scripts cannot write.
-pub(crate) fn is_reserved(name: &[u16]) -> bool
+/// Whether a name begins with `$dl_`, as those do that scripts cannot write.
+pub fn is_reserved(name: &[u16]) -> bool
     ensures { result ≡ names.is_reserved name.now }
 {
     name.starts_with(RESERVED.as_slice())
