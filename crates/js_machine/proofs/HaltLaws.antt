@@ -4,8 +4,6 @@ use Rattle.std.specs.Prelude.{Option, Some, None}
 use Rattle.js_values.specs.declared.reason.Reason.{Reason}
 use Rattle.js_values.specs.declared.value.Value.{Value}
 use Rattle.exceptions_core.specs.declared.completion.Completion.TheVariants as completion
-use Rattle.js_tree.specs.declared.tree.Stmt.{Stmt}
-use Rattle.js_tree.specs.Plain as view
 use Rattle.js_machine.specs.declared.frame.Control.{Control}
 use Rattle.js_machine.specs.declared.frame.End.TheVariants as end
 use Rattle.js_machine.specs.declared.frame.Over.{Over}
@@ -14,13 +12,14 @@ use Rattle.js_machine.specs.declared.frame.Unbuilt.{Unbuilt}
 use Rattle.js_machine.specs.declared.machine.Machine.{Machine}
 use Rattle.js_machine.specs.declared.task.Halt.{Halt}
 use Rattle.js_machine.specs.declared.task.Halt.TheVariants as halt
+use Rattle.js_machine.specs.declared.task.Task.{Task}
 use Rattle.js_machine.specs.Asks.{Gives, Ends}
 use Rattle.js_machine.specs.Given.{Asked, LeadsTo, after}
-use Rattle.js_machine.specs.Halts.{HaltsAs, RunsTask, RunsTo, in_script}
+use Rattle.js_machine.specs.Halts.{HaltsAs, RunsTask, RunsTo, in_task, stack_of}
 use Rattle.js_machine.specs.NotBuilt.{IsNotBuilt}
 use Rattle.js_machine.specs.Rest.{Outside, Same, at, over_control, rest, thrown}
 use Rattle.js_machine.specs.Run.{End}
-use Rattle.js_machine.specs.Rest as left
+use Rattle.js_machine.specs.Rest as spec
 use Rattle.js_machine.specs.Stacks.{top}
 use Rattle.js_machine.proofs.GivenLaws.{goes_from, goes_to}
 
@@ -43,7 +42,7 @@ module _ (m : Machine) where
 
   pub threw : (v : Value) → v ≡ top m.values → HaltsAs (halt.Uncaught v) (over.End end.Threw) m
   unfolding HaltsAs rest
-  threw v e = λ t out h. h ∙ ap (λ w. End (thrown w) (left.state m out)) (sym e)
+  threw v e = λ t out h. h ∙ ap (λ w. End (thrown w) (spec.state m out)) (sym e)
 
   pub out_of_steps : HaltsAs halt.OutOfSteps (over.End end.OutOfSteps) m
   unfolding HaltsAs rest
@@ -58,31 +57,31 @@ module _ (m : Machine) where
   not_built what is = λ t out h. (what, (h, is))
 
 -- a run goes from its start to where the machine is over
-pub run_halts : (code : List Stmt) (budget : ℕ) (old start entered stopped new : Machine) (next : Control) (why : Over) (h : Halt) (given told : List Asked)
-    → old.task ≡ Some code
-    → start.clock ≡ (old.clock.0, budget - old.clock.0) → start.frames ≡ [] → start.values ≡ [] → start.heap ≡ old.heap → start.hosts ≡ old.hosts → start.beats ≡ old.beats
-    → Same (in_script (view.body code)) start next entered → LeadsTo (rest next) entered given (over_control why) stopped told → new ≡ record stopped { task = None } → HaltsAs h why new → RunsTo budget old given h new told
+pub run_halts : (task : Task) (budget : ℕ) (old start entered stopped new : Machine) (next : Control) (why : Over) (h : Halt) (given told : List Asked)
+    → old.task ≡ Some task
+    → start.clock ≡ (old.clock.0, budget - old.clock.0) → start.frames ≡ [] → start.heap ≡ old.heap → start.hosts ≡ old.hosts → start.beats ≡ old.beats
+    → Same (in_task task) (record start { values = stack_of task }) next entered → LeadsTo (rest next) entered given (over_control why) stopped told → new ≡ record stopped { task = None } → HaltsAs h why new → RunsTo budget old given h new told
 unfolding HaltsAs RunsTo
-run_halts code budget old start entered stopped new next why h given told task clock frames values heap hosts beats enters goes is halts =
-    let P : Option (List Stmt) → Type 0 = λ t. RunsTask t budget old given h new told in
+run_halts task budget old start entered stopped new next why h given told set clock frames heap hosts beats enters goes is halts =
+    let P : Option Task → Type 0 = λ t. RunsTask t budget old given h new told in
     let asks = goes.0 in
-    let script = in_script (view.body code) in
-    subst P (sym task) (
+    let left = in_task task in
+    let vs = stack_of task in
+    subst P (sym set) (
       asks,
       (
         goes.1.0,
         λ out answers.
-            let first = script (budget - old.clock.0) [] [] old.heap old.hosts old.beats old.clock.0 out in
+            let first = left (budget - old.clock.0) [] vs old.heap old.hosts old.beats old.clock.0 out in
             let last = at (rest (over_control why)) new (after asks out) in (
               last,
               (
                 goes_from asks out first (at (rest next) entered out) last
-                    (ap (λ c. script c.1 [] [] old.heap old.hosts old.beats c.0 out) (sym clock)
-                    ∙ ap (λ fs. script start.clock.1 fs [] old.heap old.hosts old.beats start.clock.0 out) (sym frames)
-                    ∙ ap (λ vs. script start.clock.1 start.frames vs old.heap old.hosts old.beats start.clock.0 out) (sym values)
-                    ∙ ap (λ k. script start.clock.1 start.frames start.values k old.hosts old.beats start.clock.0 out) (sym heap)
-                    ∙ ap (λ k. script start.clock.1 start.frames start.values start.heap k old.beats start.clock.0 out) (sym hosts)
-                    ∙ ap (λ k. script start.clock.1 start.frames start.values start.heap start.hosts k start.clock.0 out) (sym beats)
+                    (ap (λ c. left c.1 [] vs old.heap old.hosts old.beats c.0 out) (sym clock)
+                    ∙ ap (λ fs. left start.clock.1 fs vs old.heap old.hosts old.beats start.clock.0 out) (sym frames)
+                    ∙ ap (λ k. left start.clock.1 start.frames vs k old.hosts old.beats start.clock.0 out) (sym heap)
+                    ∙ ap (λ k. left start.clock.1 start.frames vs start.heap k old.beats start.clock.0 out) (sym hosts)
+                    ∙ ap (λ k. left start.clock.1 start.frames vs start.heap start.hosts k start.clock.0 out) (sym beats)
                     ∙ enters out)
                     (goes_to asks out (at (rest next) entered out) (at (rest (over_control why)) stopped (after asks out)) last
                     (goes.1.1 out answers) (sym (ap (λ m. at (rest (over_control why)) m (after asks out)) is))),

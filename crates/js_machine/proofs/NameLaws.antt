@@ -54,11 +54,11 @@ has_none heap name e = ap (value_read no_names) e
 
 pub ruleset value_laws = (holds_it, shares_it, has_none)
 
-told_ok : (p : heap_put.Put) (done : answer.Put) → Ok done ≡ told p → true ≡ is_length p
-told_ok (heap_put.Done heap) done e = refl
-told_ok heap_put.Ignored done e = refl
-told_ok (heap_put.Shared scope place) done e = refl
-told_ok heap_put.BadLength done e = cc
+told_ok : (p : heap_put.Put) (answered : answer.Put) → Ok answered ≡ told p → true ≡ is_length p
+told_ok (heap_put.Done heap) answered e = refl
+told_ok heap_put.Ignored answered e = refl
+told_ok (heap_put.Shared scope place) answered e = refl
+told_ok heap_put.BadLength answered e = cc
 
 told_bad : (p : heap_put.Put) → Err error.BadLength ≡ told p → false ≡ is_length p
 told_bad (heap_put.Done heap) e = cc
@@ -72,8 +72,8 @@ bad_stays heap heap_put.Ignored e = refl
 bad_stays heap (heap_put.Shared scope place) e = refl
 bad_stays heap heap_put.BadLength e = refl
 
-pub is_put : (heap : Heap) (o : ℕ) (name : Name) (v : Value) (done : answer.Put) → o ≡ global_object → Ok done ≡ told (put heap o name v) → true ≡ is_length (put heap global_object name v)
-is_put heap o name v done e f = told_ok (put heap global_object name v) done (f ∙ ap (λ o. told (put heap o name v)) e)
+pub is_put : (heap : Heap) (o : ℕ) (name : Name) (v : Value) (answered : answer.Put) → o ≡ global_object → Ok answered ≡ told (put heap o name v) → true ≡ is_length (put heap global_object name v)
+is_put heap o name v answered e f = told_ok (put heap global_object name v) answered (f ∙ ap (λ o. told (put heap o name v)) e)
 
 pub is_bad : (heap : Heap) (o : ℕ) (name : Name) (v : Value) → o ≡ global_object → Err error.BadLength ≡ told (put heap o name v) → false ≡ is_length (put heap global_object name v)
 is_bad heap o name v e f = told_bad (put heap global_object name v) (f ∙ ap (λ o. told (put heap o name v)) e)

@@ -17,6 +17,10 @@ drop_get xs i d h = let e : suc i ≡ i + 1 = omega arith in drop-cons xs i d h 
 pub drop_at : {X : Type 0} (xs : List X) (i : ℕ) (x : X) → i < length xs → x ≡ get_or xs i x → drop i xs ≡ x ∷ drop (i + 1) xs
 drop_at xs i x h e = drop_get xs i x h ∙ ap (λ y. y ∷ drop (i + 1) xs) (sym e)
 
+-- more values on a stack
+pub newest_added : (xs ys zs : List Value) → zs ≡ xs ++ ys → reverse zs ≡ reverse ys ++ reverse xs
+newest_added xs ys zs e = ap reverse e ∙ reverse-append xs ys
+
 -- after k more values
 pub without_front : (xs ys : List Value) → without (length xs) (xs ++ ys) ≡ ys
 without_front [] ys = refl

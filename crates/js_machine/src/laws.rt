@@ -1,5 +1,6 @@
 //! Laws over the definitions: these calls do nothing, and each says a law of all runs.
 
+ghost use Rattle.js_machine.specs.Halts.{CallsAreEntered};
 ghost use Rattle.js_machine.specs.Laws as law;
 ghost use Rattle.js_machine.specs.Reachable as reachable;
 
@@ -39,6 +40,12 @@ pub fn lists_are_applied()
 /// A text of more than 2^26 units stops the run.
 pub fn long_texts_stop()
     ensures { law.LongTextsStop }
+{}
+
+/// A task that calls a function enters it with the global object as `this`, as an event of a page
+/// does.
+pub fn calls_are_entered()
+    ensures { CallsAreEntered }
 {}
 
 /// In every state that a run reaches, prototypes and parents were made before, each number is that

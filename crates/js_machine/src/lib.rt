@@ -30,9 +30,9 @@ mod variables;
 mod world;
 
 pub use laws::{
-    lists_are_applied, long_texts_stop, nodes_have_parts, pages_grow, pages_rise,
-    reached_states_keep, runs_grow, steps_rise,
+    calls_are_entered, lists_are_applied, long_texts_stop, nodes_have_parts, pages_grow,
+    pages_rise, reached_states_keep, runs_grow, steps_rise,
 };
 pub use machine::Machine;
 pub use task::Halt;
-pub use world::Host;
+pub use world::{Host, Late};

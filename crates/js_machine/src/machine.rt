@@ -6,7 +6,8 @@ use crate::clock::Clock;
 use crate::frame::{Control, Frame};
 use crate::hosts::Hosts;
 use crate::stacks::{Frames, Values};
-use js_code::{BodyCode, ExprCode};
+use crate::task::Task;
+use js_code::ExprCode;
 use js_values::Value;
 use object_heap::Heap;
 use std::alloc::{AllocError, Global};
@@ -22,8 +23,7 @@ pub struct Machine {
     pub(crate) values: Values,
     pub(crate) clock: Clock,
     pub(crate) beats: u64,
-    /// The script that is to be run.
-    pub(crate) task: Option<BodyCode>,
+    pub(crate) task: Option<Task>,
 }
 
 impl Machine {

@@ -1,10 +1,11 @@
 //! The machine's two stacks, each seen as its list, the newest first.
 
-ghost use Rattle.std.specs.Prelude.{◌≡◌, ◌∷◌, [], IfOk, MatchOption, reverse, take};
+ghost use Rattle.std.specs.Prelude.{◌≡◌, ◌∷◌, ◌++◌, [], IfOk, MatchOption, reverse, take};
 ghost use Rattle.js_values.specs.declared.value.Value.TheVariants.{Undefined};
 ghost use Rattle.js_machine.specs.Stacks.{below, top, without};
 
 use crate::frame::Frame;
+use dl_text::TryCopy;
 use js_values::Value;
 use std::alloc::{AllocError, Global};
 use std::marker::Model;
@@ -24,6 +25,16 @@ impl Model for Values {
     ghost view = { λ values. reverse values.items.items };
 }
 
+fn copies(alloc: Global, values: &[Value]) -> Result<Vec<Value>, AllocError>
+    ensures { IfOk result (λ copies. copies.items ≡ values.now) }
+{
+    let mut copies = Vec::new(alloc);
+    for v in values {
+        copies.push(v.copy(alloc)?)?;
+    }
+    Ok(copies)
+}
+
 impl Values {
     pub fn new(alloc: Global) -> Values
         ensures { result ≡ [] }
@@ -38,6 +49,16 @@ impl Values {
         ensures { IfOk result (λ _. self.new ≡ v ∷ self.old) }
     {
         self.items.push(v)?;
+        Ok(())
+    }
+
+    /// Adds a copy of each of these, in order.
+    #[tactic(auto, using(crate::proofs::StackLists::newest_added))]
+    pub fn push_copies(&mut self, alloc: Global, values: &[Value]) -> Result<(), AllocError>
+        ensures { IfOk result (λ _. self.new ≡ reverse values.now ++ self.old) }
+    {
+        let mut copies = copies(alloc, values)?;
+        self.items.append(&mut copies)?;
         Ok(())
     }
 

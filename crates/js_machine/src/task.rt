@@ -1,10 +1,12 @@
-//! Tasks: a machine is given a script, and runs it in a world that answers its host calls.
+//! Tasks: a machine is given a script, or a function to be called, and runs it in a world that
+//! answers its host calls.
 
 ghost use Rattle.std.specs.Prelude.{◌≡◌, true, IfOk, None, is_some, map};
 ghost use Rattle.js_calls.specs.Declared.{functions_of};
 ghost use Rattle.js_tree.specs.Plain as view;
 ghost use Rattle.js_machine.specs.Globals.{host_body};
-ghost use Rattle.js_machine.specs.Halts.{HaltsAs, RunsTo, Starts, in_script};
+ghost use Rattle.js_machine.specs.Halts.{HaltsAs, RunsTo, Starts, StartsCall};
+ghost use Rattle.js_machine.specs.Halts.{in_script, in_task, stack_of};
 ghost use Rattle.js_machine.specs.NotBuilt.{StopsRightly, has_functions};
 ghost use Rattle.js_machine.specs.Page.{state_at_start};
 ghost use Rattle.js_machine.specs.Rest.{Same, over_control};
@@ -16,13 +18,21 @@ use crate::hosts::{Hosts, add_hosts};
 use crate::machine::Machine;
 use crate::stacks::{Frames, Values};
 use crate::variables::declare;
-use crate::world::Host;
+use crate::world::Late;
 use dl_text::{Names, TryCopy};
 use js_code::BodyCode;
 use js_tree::Script;
-use js_values::{Reason, Value};
-use object_heap::Heap;
+use js_values::{ObjectId, Reason, Value};
+use object_heap::{BuiltIn, Heap};
 use std::alloc::{AllocError, Global};
+
+/// What a machine is to run.
+#[derive(Drop)]
+pub enum Task {
+    Script(BodyCode),
+    /// This function, with so many arguments above its `this` on these values.
+    Call(u32, ObjectId, Values),
+}
 
 /// How a run ended.
 #[derive(Drop)]
@@ -32,6 +42,8 @@ pub enum Halt {
     Uncaught(Value),
     OutOfSteps,
     Stopped(Reason),
+    /// The world said that the run cannot go on.
+    LateFailed,
     /// What comes next is not built yet. The machine is not run again.
     Unbuilt,
 }
@@ -130,29 +142,63 @@ impl Machine {
         }
     }
 
+    /// The task is begun.
+    #[tactic(auto, using(crate::proofs::ScriptLaws::call_begun))]
+    fn begin_task(&mut self, task: Task) -> Result<Control, AllocError>
+        ensures same { IfOk result (λ next.
+            Same (in_task task) (record self.old { values = stack_of task }) next self.new) }
+        ensures rightly { IfOk result (λ next. StopsRightly next self.new) }
+    {
+        match task {
+            Task::Script(code) => {
+                self.values = Values::new(self.alloc);
+                self.enter_script(code)
+            }
+            Task::Call(count, f, values) => {
+                self.values = values;
+                Ok(Control::Enter(count, f))
+            }
+        }
+    }
+
     /// Sets a script as the task. None is set before.
     pub fn start(&mut self, script: &Script) -> Result<(), AllocError>
         requires { self.old.task ≡ None }
         ensures { IfOk result (λ _. Starts (view.script script.now) self.old self.new) }
     {
         let code = BodyCode::of_script(self.alloc, script)?;
-        self.task = Some(code);
+        self.task = Some(Task::Script(code));
+        Ok(())
+    }
+
+    /// Sets the call of a function as the task, with the global object as `this`. None is set
+    /// before. What is no function throws a TypeError when it is run.
+    pub fn start_call(&mut self, f: ObjectId, arguments: &[Value]) -> Result<(), AllocError>
+        requires { self.old.task ≡ None }
+        ensures { IfOk result (λ _. StartsCall f arguments.now self.old self.new) }
+    {
+        let Ok(count) = u32::try_from(arguments.len()) else {
+            return Err(AllocError);
+        };
+        let mut values = Values::new(self.alloc);
+        values.push(Value::Object(self.heap.built_in(BuiltIn::Global)))?;
+        values.push_copies(self.alloc, arguments)?;
+        self.task = Some(Task::Call(count, f, values));
         Ok(())
     }
 
     /// Runs the task until it ends, stops, or has taken so many steps, those before included. No
     /// task is set behind it.
-    pub fn run<W: Host>(&mut self, budget: u64, world: &mut W) -> Result<Halt, AllocError>
+    pub fn run<W: Late>(&mut self, budget: u64, world: &mut W) -> Result<Halt, AllocError>
         requires { is_some self.old.task ≡ true }
         ensures runs { IfOk result (λ halt. RunsTo budget
             self.old (W.given world.old) halt self.new (W.given world.new)) }
         ensures task { IfOk result (λ _. self.new.task ≡ None) }
     {
-        let code = self.task.take().unwrap();
+        let task = self.task.take().unwrap();
         self.clock.allow(budget);
         self.frames = Frames::new(self.alloc);
-        self.values = Values::new(self.alloc);
-        let first = self.enter_script(code)?;
+        let first = self.begin_task(task)?;
         let over = self.go(first, world)?;
         self.task = None;
         let halt = self.halt(over)?;

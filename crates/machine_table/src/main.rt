@@ -19,7 +19,7 @@ use std::alloc::Global;
 use std::io;
 use std::io::Read;
 use std::time::{Clock, Instant};
-use world::{Answered, Calls};
+use world::{Calls, Kept};
 
 /// The bytes that `lex` may be given.
 const LIMIT: usize = 0xffff_ffff;
@@ -58,6 +58,7 @@ fn ended(alloc: Global, halt: &Halt) -> io::Result<String> {
         Halt::Uncaught(_) => String::from_str(alloc, "Uncaught")?,
         Halt::OutOfSteps => String::from_str(alloc, "OutOfSteps")?,
         Halt::Stopped(reason) => format!(in alloc; "Stopped {reason}")?,
+        Halt::LateFailed => String::from_str(alloc, "LateFailed")?,
         Halt::Unbuilt => String::from_str(alloc, "Unbuilt")?,
     })
 }
@@ -84,13 +85,15 @@ fn tell_value(rt: &impl Print, alloc: Global, value: &Value) -> io::Result<()> {
 }
 
 /// Writes the host calls of a run, each on a line.
-fn tell_calls(rt: &impl Print, alloc: Global, calls: &[Answered]) -> io::Result<()> {
-    for call in calls {
-        print!(rt; "call out")?;
-        for value in call.arguments.as_slice() {
-            tell_value(rt, alloc, value)?;
+fn tell_calls(rt: &impl Print, alloc: Global, kept: &[Kept]) -> io::Result<()> {
+    for asked in kept {
+        if let Kept::Call(call) = asked {
+            print!(rt; "call out")?;
+            for value in call.arguments.as_slice() {
+                tell_value(rt, alloc, value)?;
+            }
+            println!(rt; "")?;
         }
-        println!(rt; "")?;
     }
     Ok(())
 }
@@ -105,13 +108,13 @@ fn tell_run(
     let mut machine = machine(alloc)?;
     let mut world = Calls {
         alloc,
-        calls: Vec::new(alloc),
+        kept: Vec::new(alloc),
     };
     machine.start(script)?;
     let start = Instant::now(rt)?;
     let halt = machine.run(budget, &mut world)?;
     tell_time(rt, start)?;
-    tell_calls(rt, alloc, world.calls.as_slice())?;
+    tell_calls(rt, alloc, world.kept.as_slice())?;
     let steps = machine.steps();
     let beats = machine.beats();
     let ended = ended(alloc, &halt)?;
