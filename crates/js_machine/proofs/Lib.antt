@@ -14,6 +14,7 @@ pub mod ValueLaws
 pub mod fitting
 pub mod StepLaws
 pub mod NameLaws
+pub mod AtOnceLaws
 pub mod ThrowLaws
 pub mod AssignmentLaws
 pub mod UnaryLaws

@@ -33,3 +33,4 @@ pub mod Rest
 pub mod Reachable
 pub mod Given
 pub mod Halts
+pub mod AtOnce

@@ -59,7 +59,11 @@ impl Machine {
             return Ok(Control::End(End::OutOfSteps));
         }
         let target = target.share()?;
-        self.first(Frame::Store(target), right)
+        if self.push_at_once(right)? {
+            self.give_store(target)
+        } else {
+            self.first(Frame::Store(target), right)
+        }
     }
 
     #[inline]
@@ -87,7 +91,11 @@ impl Machine {
             Some(v) => {
                 let target = target.share()?;
                 self.values.push(v)?;
-                self.first(Frame::StoreWith(op, target), right)
+                if self.push_at_once(right)? {
+                    self.give_store_with(op, target)
+                } else {
+                    self.first(Frame::StoreWith(op, target), right)
+                }
             }
             None => self.throw_error(BuiltIn::ReferenceErrorPrototype),
         }

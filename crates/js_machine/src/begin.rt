@@ -191,6 +191,9 @@ impl Machine {
             StmtNode::Empty => Ok(Control::Done),
             StmtNode::Do(e) => self.begin_do(e),
             StmtNode::If(test, _, _) => {
+                if self.push_at_once(test)? {
+                    return self.give_if(s);
+                }
                 let test = test.share()?;
                 self.wait(Frame::If(s), Control::Expr(test))
             }

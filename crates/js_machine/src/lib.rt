@@ -8,6 +8,7 @@
 #![tactic(auto)]
 
 mod assignments;
+mod at_once;
 mod begin;
 mod calls;
 mod clock;

@@ -24,9 +24,12 @@ impl Machine {
         };
         match parts.test {
             Some(test) => {
-                let test = test.share()?;
                 let turn = s.share()?;
                 self.frames.push(Frame::Turn(turn))?;
+                if self.push_at_once(test)? {
+                    return self.give_test(s);
+                }
+                let test = test.share()?;
                 self.frames.push(Frame::Test(s))?;
                 Ok(Control::Expr(test))
             }

@@ -99,7 +99,8 @@ fn as_value(n: Result<Num, Reason>) -> Result<Value, Reason>
 }
 
 /// An operation on two numbers (ES3 11.5 to 11.7, 11.10).
-fn compute(op: BinaryOp, a: Num, b: Num) -> Result<Num, Reason>
+#[inline]
+pub(crate) fn compute(op: BinaryOp, a: Num, b: Num) -> Result<Num, Reason>
     ensures { result ≡ spec.on_two op a b }
 {
     match op {
@@ -132,24 +133,13 @@ fn on_numbers(op: BinaryOp, v: &Value, w: &Value) -> Operated
     }
 }
 
-/// A text with another behind it (ES3 11.6.1).
-fn joined(alloc: Global, a: &Units, b: &Units) -> Result<Units, AllocError>
-    ensures { IfOk result (λ text. text ≡ a.now ++ b.now) }
-{
-    let mut text = a.copy(alloc)?;
-    for unit in b.items() {
-        text.push(*unit)?;
-    }
-    Ok(text)
-}
-
 fn as_text(alloc: Global, a: &Units, b: &Units) -> Result<Result<Value, Reason>, AllocError>
     ensures { IfOk result (λ r. r ≡ spec.text_result (a.now ++ b.now)) }
 {
     if a.items().len() > LONGEST_TEXT || b.items().len() > LONGEST_TEXT - a.items().len() {
         return Ok(Err(Reason::LongText));
     }
-    Ok(Ok(Value::Str(joined(alloc, a, b)?)))
+    Ok(Ok(Value::Str(Units::joined(alloc, a, b)?)))
 }
 
 fn on_texts(alloc: Global, v: &Value, w: &Value) -> Result<Operated, AllocError>
@@ -185,7 +175,8 @@ fn text_less(a: &Units, b: &Units) -> bool
 }
 
 /// What a comparison makes of an order, where None is the standard's undefined.
-fn truth_in(op: BinaryOp, b: Option<bool>) -> bool
+#[inline]
+pub(crate) fn truth_in(op: BinaryOp, b: Option<bool>) -> bool
     ensures { result ≡ spec.truth_in op b }
 {
     match b {

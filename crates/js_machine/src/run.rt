@@ -97,6 +97,9 @@ impl Machine {
             measure next self.new < measure (Control.Expr e) self.old) }
         ensures rightly { IfOk result (λ next. StopsRightly next self.new) }
     {
+        if self.push_at_once(&e)? {
+            return Ok(Control::Give);
+        }
         if self.clock.left() == 0 {
             return Ok(Control::End(End::OutOfSteps));
         }
