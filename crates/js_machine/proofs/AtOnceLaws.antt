@@ -1,9 +1,7 @@
 -- An expression without effects, with its steps left, gives its value at once.
-use Rattle.std.proofs.Common.{◌≡◌, ◌≤◌, ℕ, zero, suc, ◌+◌, ◌-◌, Bool, true, false, List, [], ◌∷◌, Option, Some, None, Ok, Err, ◌⊎◌, inl, inr, refl, sym, ap, subst, ◌∙◌, arith}
-use Rattle.std.specs.Prelude.{ℤ, pos, Result, IfSome}
-use Rattle.js_values.specs.declared.number.Num.{Num}
+use Rattle.std.proofs.Common.{◌≡◌, ◌≤◌, ℕ, zero, suc, ◌+◌, ◌-◌, Bool, List, ◌∷◌, Option, Some, None, Ok, Err, ◌⊎◌, inl, inr, refl, sym, ap, subst, ◌∙◌, arith}
+use Rattle.std.specs.Prelude.{ℤ, pos, IfSome}
 use Rattle.js_values.specs.declared.number.Num.TheVariants as number
-use Rattle.js_values.specs.declared.reason.Reason.{Reason}
 use Rattle.js_values.specs.declared.value.Value.{Value}
 use Rattle.js_values.specs.declared.value.Value.TheVariants as value
 use Rattle.object_heap.specs.Names.{Name}
@@ -19,7 +17,7 @@ use Rattle.js_machine.specs.declared.frame.Frame.{Frame}
 use Rattle.js_machine.specs.declared.frame.Control.TheVariants as control
 use Rattle.js_machine.specs.declared.hosts.HostCall.{HostCall}
 use Rattle.js_machine.specs.declared.machine.Machine.{Machine}
-use Rattle.js_machine.specs.Asks.{Program, AnExpr, Gives}
+use Rattle.js_machine.specs.Asks.{Program, AnExpr}
 use Rattle.js_machine.specs.AtOnce.{Pushed, by_both, given, value_at_once}
 use Rattle.js_machine.specs.Frames.{gives, on_value}
 use Rattle.js_machine.specs.Globals.{value_of_global}
@@ -29,9 +27,8 @@ use Rattle.js_machine.specs.Page.{script_env}
 use Rattle.js_machine.specs.Programs.{program}
 use Rattle.js_machine.specs.References.{get_value, global_object, if_global, or_undefined}
 use Rattle.object_heap.specs.Get.{met}
-use Rattle.js_machine.specs.Rest.{Outside, at, in_value, rest, stack, state_of}
+use Rattle.js_machine.specs.Rest.{Outside, in_value, rest, stack, state_of}
 use Rattle.js_machine.specs.Run.{Stack, Trace, due, pop, run}
-use Rattle.js_machine.specs.State.{State}
 use Rattle.js_machine.proofs.FlowLaws.{give_frame}
 use Rattle.js_machine.proofs.NameLaws.{is_met}
 use Rattle.js_machine.proofs.Operating.{operator_gives}
@@ -257,12 +254,12 @@ pub pushed : (e : declared_expr.Expr) (v : Value) (old new : Machine) (k : ℕ) 
 pushed e v old new k h c z l g d frames heap hosts beats =
     record {
       same = λ f out. given_under (f ∷ old.frames) out
-        ∙ (give_frame new.clock.1 old.frames new.values new.heap new.hosts new.beats new.clock.0 out f (f ∷ old.frames) refl
-        ∙ ap (λ fs. in_value f new.clock.1 fs new.values new.heap new.hosts new.beats new.clock.0 out) (sym frames));
+          ∙ (give_frame new.clock.1 old.frames new.values new.heap new.hosts new.beats new.clock.0 out f (f ∷ old.frames) refl
+          ∙ ap (λ fs. in_value f new.clock.1 fs new.values new.heap new.hosts new.beats new.clock.0 out) (sym frames));
       gives = λ out. given_under old.frames out
-        ∙ ap (λ fs. rest control.Give new.clock.1 fs new.values new.heap new.hosts new.beats new.clock.0 out) (sym frames);
+          ∙ ap (λ fs. rest control.Give new.clock.1 fs new.values new.heap new.hosts new.beats new.clock.0 out) (sym frames);
       frames = frames;
-      left = let m : new.clock.1 ≡ old.clock.1 - k = ap (λ d. d.1) d in omega (arith, m, z, l)
+      left = let m : new.clock.1 ≡ old.clock.1 - k = ap (λ d. d.1) d in omega (arith, m, z, l);
     }
   where
     given_under : (fs : List Frame) (out : Outside) → rest (control.Expr e) old.clock.1 fs old.values old.heap old.hosts old.beats old.clock.0 out ≡ rest control.Give new.clock.1 fs new.values new.heap new.hosts new.beats new.clock.0 out

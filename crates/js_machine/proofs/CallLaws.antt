@@ -1,5 +1,5 @@
 -- What is left of a run in calls of properties.
-use Rattle.std.proofs.Common.{subst, ◌≡◌, ℕ, suc, ◌+◌, ◌-◌, true, false, List, [], ◌∷◌, ◌++◌, length, Option, Some, None, arith, take, refl, sym, ap, ◌∙◌}
+use Rattle.std.proofs.Common.{◌≡◌, ℕ, suc, ◌+◌, ◌-◌, true, false, List, [], ◌∷◌, ◌++◌, length, Option, Some, None, arith, take, refl, sym, ap, ◌∙◌}
 use Rattle.std.specs.Prelude.{option_map}
 use Rattle.std.proofs.lemmas.List.{reverse-append}
 use Rattle.js_values.specs.declared.value.ObjectId.{ObjectId}
@@ -12,7 +12,6 @@ use Rattle.object_heap.specs.declared.built_in.BuiltIn.TheVariants as built
 use Rattle.object_heap.specs.declared.object.Class.{Class}
 use Rattle.object_heap.specs.declared.object.Class.TheVariants as class
 use Rattle.object_heap.specs.BuiltIns.{which}
-use Rattle.object_heap.specs.Get.{get}
 use Rattle.object_heap.specs.Names.{Name}
 use Rattle.object_heap.specs.Objects.{Heap, class_of}
 use Rattle.js_tree.specs.declared.tree.Expr.{Expr}
@@ -20,7 +19,6 @@ use Rattle.js_tree.specs.Plain.{expr}
 use Rattle.js_tree.specs.Tree.{MoreExprs, NoExprs}
 use Rattle.js_tree.specs.Tree as tree
 use Rattle.js_code.specs.Cursors.{exprs_from}
-use Rattle.js_machine.specs.declared.calls.Member.TheVariants as member
 use Rattle.js_machine.specs.declared.frame.Frame.{Frame}
 use Rattle.js_machine.specs.declared.frame.Frame.TheVariants as frame
 use Rattle.js_machine.specs.declared.frame.Control.{Control}
@@ -29,25 +27,25 @@ use Rattle.js_machine.specs.declared.frame.End.TheVariants as end
 use Rattle.js_machine.specs.declared.frame.Unbuilt.TheVariants as unbuilt
 use Rattle.js_machine.specs.declared.hosts.HostCall.{HostCall}
 use Rattle.js_machine.specs.declared.machine.Machine.{Machine}
-use Rattle.js_machine.specs.Asks.{Program, AnExpr, Ends, Enter, Ret, TellCall}
+use Rattle.js_machine.specs.Asks.{AnExpr, Ends, Enter, Ret, TellCall}
 use Rattle.js_machine.specs.Calls.{arguments, dot}
 use Rattle.js_machine.specs.Conversions.{to_object}
 use Rattle.js_machine.specs.Expressions.{expression}
 use Rattle.js_machine.specs.Frames.{gives, on_value}
 use Rattle.js_machine.specs.Given.{Asked, Called, LeadsTo, Tells, after_call}
-use Rattle.js_machine.specs.Globals.{no_names}
 use Rattle.js_machine.specs.HostCalls.{host_call_by, host_call_in, host_name}
-use Rattle.js_machine.specs.Members.{arguments_on, base_on, dot_name, is_base, is_native, is_native_by, member_called, member_in, member_of}
-use Rattle.js_machine.specs.NotBuilt.{CallsUnbuilt}
+use Rattle.js_machine.specs.Members.{arguments_on, base_on, dot_name, is_base, is_native, is_native_by, member_called, property_in}
+use Rattle.js_machine.specs.Operated.{is_object}
 use Rattle.js_machine.specs.Page.{script_env}
 use Rattle.js_machine.specs.Programs.{program}
-use Rattle.js_machine.specs.References.{error_object, get_value, or_undefined}
+use Rattle.js_machine.specs.References.{error_object, get_value}
 use Rattle.js_machine.specs.Rest.{Outside, at, in_arguments, in_expr, in_value, rest, running, stack, state_of}
 use Rattle.js_machine.specs.Run.{Trace, Call, Say, due, entered, go, if_entered, pop, reply}
 use Rattle.js_machine.specs.Stacks.{below, top, without}
 use Rattle.js_machine.specs.State.{Callee, State, callee_by, callee_of, function_callee, object_value, value_read, with_object}
 use Rattle.js_machine.specs.State as state
 use Rattle.js_machine.proofs.HostLaws.{callee_is}
+use Rattle.js_machine.proofs.MemberLaws.{base_goes, base_throws, property_read}
 use Rattle.js_machine.proofs.StepLaws.{none, step}
 
 -- ---- the stack of arguments
@@ -91,21 +89,13 @@ module _ (heap : Heap) (hosts : List HostCall) (beats steps : ℕ) (out : Outsid
   none_entered o g e = none_by o.0 (class_of heap o.0) (which o.0) refl g e
 
   -- a value that is no object is not entered
-  no_callee : (f : Value) → member_of f ≡ member.Other → callee_of s f ≡ None
+  no_callee : (f : Value) → is_object f ≡ false → callee_of s f ≡ None
   no_callee value.Undefined e = refl
   no_callee value.Null e = refl
   no_callee (value.Bool b) e = refl
   no_callee (value.Num n) e = refl
   no_callee (value.Str text) e = refl
   no_callee (value.Object o) e = cc
-
-is_object_of : (f : Value) (o : ObjectId) → member_of f ≡ member.Object o → f ≡ value.Object o
-is_object_of value.Undefined o e = cc
-is_object_of value.Null o e = cc
-is_object_of (value.Bool b) o e = cc
-is_object_of (value.Num n) o e = cc
-is_object_of (value.Str text) o e = cc
-is_object_of (value.Object p) o e = cc
 
 module _ (n : ℕ) (fs : List Frame) (vs : List Value) (heap : Heap) (hosts : List HostCall) (beats steps : ℕ) (out : Outside) where
   -- ---- where the callee is begun
@@ -126,22 +116,6 @@ module _ (n : ℕ) (fs : List Frame) (vs : List Value) (heap : Heap) (hosts : Li
       ∙ sym (ap (λ q. due out.world (n - 1) (program (AnExpr (expr object)) script_env) (on_value (λ base. to_object base (arguments (exprs_from es 0) script_env [] (member_called (dot_name q) base))) ∷ stack fs vs) (state_of heap hosts beats (steps + 1) out)) e))
 
   -- ---- the base and the arguments
-
-  base_goes : (v : Value) (p : Program) → is_base v ≡ true → to_object v p ≡ p
-  base_goes value.Undefined p e = cc
-  base_goes value.Null p e = cc
-  base_goes (value.Bool b) p e = refl
-  base_goes (value.Num n) p e = refl
-  base_goes (value.Str text) p e = refl
-  base_goes (value.Object o) p e = refl
-
-  base_throws : (v : Value) (p : Program) → is_base v ≡ false → to_object v p ≡ Rattle.js_machine.specs.References.throws_type_error
-  base_throws value.Undefined p e = refl
-  base_throws value.Null p e = refl
-  base_throws (value.Bool b) p e = cc
-  base_throws (value.Num n) p e = cc
-  base_throws (value.Str text) p e = cc
-  base_throws (value.Object o) p e = cc
 
   pub base_bad : (callee : Expr) (es : List Expr) (v : Value) → v ≡ top vs → is_base v ≡ false
       → in_value (frame.Callee callee es) n fs vs heap hosts beats steps out ≡ rest control.Throw n fs (object_value (length heap) ∷ below vs) (heap ++ error_object built.TypeErrorPrototype ∷ []) hosts beats steps out
@@ -227,53 +201,30 @@ module _ (n : ℕ) (fs : List Frame) (vs : List Value) (heap : Heap) (hosts : Li
   unfolding rest
   e_unbuilt count o = refl
 
-  other_on : (base : Value) (name : Name) (args ws : List Value) → member_in heap base name ≡ member.Other
-      → running (member_called (Some name) base args) n fs ws heap hosts beats steps out ≡ rest control.Throw n fs (object_value (length heap) ∷ ws) (heap ++ error_object built.TypeErrorPrototype ∷ []) hosts beats steps out
-  other_on value.Undefined name args ws e = cc
-  other_on value.Null name args ws e = cc
-  other_on (value.Bool b) name args ws e = cc
-  other_on (value.Num n) name args ws e = cc
-  other_on (value.Str text) name args ws e = cc
-  other_on (value.Object b) name args ws e =
-      let f = or_undefined (value_read no_names (get heap b.0 name)) in
-      throws f (value.Object b) args ws (no_callee heap hosts beats steps out f e)
-
-  object_on : (base : Value) (name : Name) (o : ObjectId) (args ws : List Value) → member_in heap base name ≡ member.Object o
-      → running (member_called (Some name) base args) n fs ws heap hosts beats steps out ≡ running (Enter (value.Object o) base args Ret) n fs ws heap hosts beats steps out
-  object_on value.Undefined name o args ws e = cc
-  object_on value.Null name o args ws e = cc
-  object_on (value.Bool b) name o args ws e = cc
-  object_on (value.Num n) name o args ws e = cc
-  object_on (value.Str text) name o args ws e = cc
-  object_on (value.Object b) name o args ws e =
-      ap (λ f. running (Enter f (value.Object b) args Ret) n fs ws heap hosts beats steps out) (is_object_of (or_undefined (value_read no_names (get heap b.0 name))) o e)
-
   pub c_none : (i : ℕ) (callee : Expr) → dot_name (expr callee) ≡ None → rest (control.Call i callee) n fs vs heap hosts beats steps out ≡ rest control.Done n fs (below (without i vs)) heap hosts beats steps out
   unfolding rest
   c_none i callee e = ap (λ name. running (member_called name (base_on i vs) (arguments_on i vs)) n fs (below (without i vs)) heap hosts beats steps out) e
 
-  pub c_other : (i : ℕ) (callee object : Expr) (name : Name) → expr callee ≡ tree.Dot (expr object) name → member_in heap (base_on i vs) name ≡ member.Other
+  -- the property of the base is entered
+  property_entered : (i : ℕ) (callee object : Expr) (name : Name) (f : Value) → expr callee ≡ tree.Dot (expr object) name → f ≡ property_in heap (base_on i vs) name
+      → running (member_called (dot_name (expr callee)) (base_on i vs) (arguments_on i vs)) n fs (below (without i vs)) heap hosts beats steps out
+      ≡ running (Enter f (base_on i vs) (arguments_on i vs) Ret) n fs (below (without i vs)) heap hosts beats steps out
+  property_entered i callee object name f e h =
+      ap (λ q. running (member_called (dot_name q) (base_on i vs) (arguments_on i vs)) n fs (below (without i vs)) heap hosts beats steps out) e
+      ∙ (property_read n fs (below (without i vs)) heap hosts beats steps out (base_on i vs) name (λ f. Enter f (base_on i vs) (arguments_on i vs) Ret)
+      ∙ sym (ap (λ f. running (Enter f (base_on i vs) (arguments_on i vs) Ret) n fs (below (without i vs)) heap hosts beats steps out) h))
+
+  pub c_other : (i : ℕ) (callee object : Expr) (name : Name) (f : Value) → expr callee ≡ tree.Dot (expr object) name → f ≡ property_in heap (base_on i vs) name → is_object f ≡ false
       → rest (control.Call i callee) n fs vs heap hosts beats steps out ≡ rest control.Throw n fs (object_value (length heap) ∷ below (without i vs)) (heap ++ error_object built.TypeErrorPrototype ∷ []) hosts beats steps out
   unfolding rest
-  c_other i callee object name e h =
-      ap (λ q. running (member_called (dot_name q) (base_on i vs) (arguments_on i vs)) n fs (below (without i vs)) heap hosts beats steps out) e
-      ∙ other_on (base_on i vs) name (arguments_on i vs) (below (without i vs)) h
+  c_other i callee object name f e h g =
+      property_entered i callee object name f e h
+      ∙ throws f (base_on i vs) (arguments_on i vs) (below (without i vs)) (no_callee heap hosts beats steps out f g)
 
-  pub c_object : (i : ℕ) (callee object : Expr) (name : Name) (o : ObjectId) → expr callee ≡ tree.Dot (expr object) name → member_in heap (base_on i vs) name ≡ member.Object o
+  pub c_object : (i : ℕ) (callee object : Expr) (name : Name) (o : ObjectId) → expr callee ≡ tree.Dot (expr object) name → value.Object o ≡ property_in heap (base_on i vs) name
       → rest (control.Call i callee) n fs vs heap hosts beats steps out ≡ rest (control.Enter i o) n fs vs heap hosts beats steps out
   unfolding rest
-  c_object i callee object name o e h =
-      ap (λ q. running (member_called (dot_name q) (base_on i vs) (arguments_on i vs)) n fs (below (without i vs)) heap hosts beats steps out) e
-      ∙ object_on (base_on i vs) name o (arguments_on i vs) (below (without i vs)) h
-
-  pub c_unbuilt : (i : ℕ) (callee : Expr) → rest (control.Call i callee) n fs vs heap hosts beats steps out ≡ rest (control.Unbuilt (unbuilt.Call i callee)) n fs vs heap hosts beats steps out
-  unfolding rest
-  c_unbuilt i callee = refl
-
-pub calls_unbuilt : (heap : Heap) (vs : List Value) (i : ℕ) (callee object : Expr) (name : Name) → expr callee ≡ tree.Dot (expr object) name → member_in heap (base_on i vs) name ≡ member.Unbuilt → CallsUnbuilt heap vs i (dot_name (expr callee))
-calls_unbuilt heap vs i callee object name e h =
-    let P : tree.Expr → Type 0 = λ q. CallsUnbuilt heap vs i (dot_name q) in
-    subst P (sym e) h
+  c_object i callee object name o e h = property_entered i callee object name (value.Object o) e h
 
 -- the machine asked the host
 pub host_asked : (m new : Machine) (given told : List Asked) (count : ℕ) (o : ObjectId) (host : Name) (args values : List Value) (v : Value) (clock : ℕ × ℕ) (next : Control)
@@ -316,7 +267,7 @@ pub ruleset base_laws = (base_bad, base_ok)
 
 pub ruleset given_laws = (argument_ok)
 
-pub ruleset member_laws = (c_none, c_other, c_object, c_unbuilt, calls_unbuilt)
+pub ruleset member_laws = (c_none, c_other, c_object)
 
 pub ruleset other_laws = (e_other, e_unbuilt)
 

@@ -48,6 +48,14 @@ module _ (n : ℕ) (fs : List Frame) (vs : List Value) (heap : Heap) (hosts : Li
   done_passes (frame.ForVar i items s) h = refl
   done_passes (frame.Callee callee es) h = refl
   done_passes (frame.Argument i callee es) h = refl
+  done_passes (frame.Base e) h = refl
+  done_passes (frame.Key e) h = refl
+  done_passes frame.Put h = refl
+  done_passes (frame.PutWith op) h = refl
+  done_passes (frame.Changed op gives_new) h = refl
+  done_passes (frame.Element i es) h = refl
+  done_passes (frame.Pair i ps) h = refl
+  done_passes frame.In h = refl
 
   pub break_passes : (f : Frame) → is_turn f ≡ false → in_break f n fs vs heap hosts beats steps out ≡ rest control.Break n fs (under f vs) heap hosts beats steps out
   unfolding in_break rest
@@ -71,6 +79,14 @@ module _ (n : ℕ) (fs : List Frame) (vs : List Value) (heap : Heap) (hosts : Li
   break_passes (frame.ForVar i items s) h = refl
   break_passes (frame.Callee callee es) h = refl
   break_passes (frame.Argument i callee es) h = refl
+  break_passes (frame.Base e) h = refl
+  break_passes (frame.Key e) h = refl
+  break_passes frame.Put h = refl
+  break_passes (frame.PutWith op) h = refl
+  break_passes (frame.Changed op gives_new) h = refl
+  break_passes (frame.Element i es) h = refl
+  break_passes (frame.Pair i ps) h = refl
+  break_passes frame.In h = refl
 
   pub continue_passes : (f : Frame) → is_turn f ≡ false → in_continue f n fs vs heap hosts beats steps out ≡ rest control.Continue n fs (under f vs) heap hosts beats steps out
   unfolding in_continue rest
@@ -94,6 +110,14 @@ module _ (n : ℕ) (fs : List Frame) (vs : List Value) (heap : Heap) (hosts : Li
   continue_passes (frame.ForVar i items s) h = refl
   continue_passes (frame.Callee callee es) h = refl
   continue_passes (frame.Argument i callee es) h = refl
+  continue_passes (frame.Base e) h = refl
+  continue_passes (frame.Key e) h = refl
+  continue_passes frame.Put h = refl
+  continue_passes (frame.PutWith op) h = refl
+  continue_passes (frame.Changed op gives_new) h = refl
+  continue_passes (frame.Element i es) h = refl
+  continue_passes (frame.Pair i ps) h = refl
+  continue_passes frame.In h = refl
 
   pub throw_passes : (f : Frame) → in_throw f n fs vs heap hosts beats steps out ≡ rest control.Throw n fs (top vs ∷ under f (below vs)) heap hosts beats steps out
   unfolding in_throw rest
@@ -117,6 +141,14 @@ module _ (n : ℕ) (fs : List Frame) (vs : List Value) (heap : Heap) (hosts : Li
   throw_passes (frame.ForVar i items s) = refl
   throw_passes (frame.Callee callee es) = refl
   throw_passes (frame.Argument i callee es) = refl
+  throw_passes (frame.Base e) = refl
+  throw_passes (frame.Key e) = refl
+  throw_passes frame.Put = refl
+  throw_passes (frame.PutWith op) = refl
+  throw_passes (frame.Changed op gives_new) = refl
+  throw_passes (frame.Element i es) = refl
+  throw_passes (frame.Pair i ps) = refl
+  throw_passes frame.In = refl
 
   -- ---- the newest frame, and the last one
 

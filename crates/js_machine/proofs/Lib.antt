@@ -20,6 +20,8 @@ pub mod AssignmentLaws
 pub mod UnaryLaws
 pub mod HostLaws
 pub mod GivenLaws
+pub mod MemberLaws
+pub mod LiteralLaws
 pub mod CallLaws
 pub mod VariableLaws
 pub mod BeginLaws

@@ -1,5 +1,5 @@
 -- What is left of a run where a name is read or written.
-use Rattle.std.proofs.Common.{◌≡◌, ℕ, zero, suc, true, false, List, [], ◌∷◌, ◌++◌, length, Option, Some, None, Ok, Err, refl, sym, ap, ◌∙◌}
+use Rattle.std.proofs.Common.{◌≡◌, ℕ, zero, suc, Bool, true, false, List, [], ◌∷◌, ◌++◌, length, Option, Some, None, Ok, Err, refl, sym, ap, ◌∙◌}
 use Rattle.std.specs.Prelude.{is_some, option_map, if◌then◌else◌}
 use Rattle.js_values.specs.declared.value.Value.{Value}
 use Rattle.js_values.specs.declared.value.Value.TheVariants as value
@@ -27,7 +27,7 @@ use Rattle.js_machine.specs.State.{State, is_length, object_value, scopes_after,
 
 -- ---- the one scope has no names
 
-at_no_name : (scope place : ℕ) → value_at no_names scope place ≡ value.Undefined
+pub at_no_name : (scope place : ℕ) → value_at no_names scope place ≡ value.Undefined
 at_no_name zero place = refl
 at_no_name (suc scope) place = refl
 
@@ -72,16 +72,25 @@ bad_stays heap heap_put.Ignored e = refl
 bad_stays heap (heap_put.Shared scope place) e = refl
 bad_stays heap heap_put.BadLength e = refl
 
-pub is_put : (heap : Heap) (o : ℕ) (name : Name) (v : Value) (answered : answer.Put) → o ≡ global_object → Ok answered ≡ told (put heap o name v) → true ≡ is_length (put heap global_object name v)
-is_put heap o name v answered e f = told_ok (put heap global_object name v) answered (f ∙ ap (λ o. told (put heap o name v)) e)
+pub is_put : (heap : Heap) (o : ℕ) (name : Name) (v : Value) (answered : answer.Put) → Ok answered ≡ told (put heap o name v) → true ≡ is_length (put heap o name v)
+is_put heap o name v answered f = told_ok (put heap o name v) answered f
 
-pub is_bad : (heap : Heap) (o : ℕ) (name : Name) (v : Value) → o ≡ global_object → Err error.BadLength ≡ told (put heap o name v) → false ≡ is_length (put heap global_object name v)
-is_bad heap o name v e f = told_bad (put heap global_object name v) (f ∙ ap (λ o. told (put heap o name v)) e)
+pub is_bad : (heap : Heap) (o : ℕ) (name : Name) (v : Value) → Err error.BadLength ≡ told (put heap o name v) → false ≡ is_length (put heap o name v)
+is_bad heap o name v f = told_bad (put heap o name v) f
 
-pub stays : (heap : Heap) (o : ℕ) (name : Name) (v : Value) → o ≡ global_object → Err error.BadLength ≡ told (put heap o name v) → heap ≡ written heap global_object name v
-stays heap o name v e f = bad_stays heap (put heap global_object name v) (f ∙ ap (λ o. told (put heap o name v)) e)
+pub stays : (heap : Heap) (o : ℕ) (name : Name) (v : Value) → Err error.BadLength ≡ told (put heap o name v) → heap ≡ written heap o name v
+stays heap o name v f = bad_stays heap (put heap o name v) f
 
 pub ruleset write_laws = (is_put, is_bad, stays)
+
+-- of the global object
+pub global_told : (heap : Heap) (o : ℕ) (name : Name) (v : Value) (b : Bool) → o ≡ global_object → b ≡ is_length (put heap o name v) → b ≡ is_length (put heap global_object name v)
+global_told heap o name v b e f = f ∙ ap (λ o. is_length (put heap o name v)) e
+
+pub global_written : (heap : Heap) (o : ℕ) (name : Name) (v : Value) → o ≡ global_object → written heap o name v ≡ written heap global_object name v
+global_written heap o name v e = ap (λ o. written heap o name v) e
+
+pub ruleset global_laws = (global_told, global_written)
 
 -- ---- a name is bound where the global object has it
 
@@ -123,24 +132,24 @@ module _ (n : ℕ) (fs : List Frame) (vs : List Value) (heap : Heap) (hosts : Li
   abbrev with_scopes : Scopes → Heap → State
   with_scopes scopes after = record (state_of after hosts beats steps out) { scopes = scopes }
 
-  pub put_goes : (name : Name) (v : Value) (p q : Program)
-      → run out.world n (if is_length (put heap global_object name v) then p else q) (stack fs vs) (with_scopes (scopes_after (put heap global_object name v) v no_names) (written heap global_object name v))
-      ≡ running (if is_length (put heap global_object name v) then p else q) n fs vs (written heap global_object name v) hosts beats steps out
-  put_goes name v p q = ap (λ scopes. run out.world n (if is_length (put heap global_object name v) then p else q) (stack fs vs) (with_scopes scopes (written heap global_object name v))) (scopes_stay (put heap global_object name v) v)
+  pub put_goes : (o : ℕ) (name : Name) (v : Value) (p q : Program)
+      → run out.world n (if is_length (put heap o name v) then p else q) (stack fs vs) (with_scopes (scopes_after (put heap o name v) v no_names) (written heap o name v))
+      ≡ running (if is_length (put heap o name v) then p else q) n fs vs (written heap o name v) hosts beats steps out
+  put_goes o name v p q = ap (λ scopes. run out.world n (if is_length (put heap o name v) then p else q) (stack fs vs) (with_scopes scopes (written heap o name v))) (scopes_stay (put heap o name v) v)
 
-  pub put_ok : (name : Name) (v : Value) (p : Program) → is_length (put heap global_object name v) ≡ true
-      → running (Rattle.js_machine.specs.References.put global_object name v p) n fs vs heap hosts beats steps out ≡ running p n fs vs (written heap global_object name v) hosts beats steps out
-  put_ok name v p h =
-      put_goes name v p throws_range_error
-      ∙ ap (λ b. running (if b then p else throws_range_error) n fs vs (written heap global_object name v) hosts beats steps out) h
+  pub put_ok : (o : ℕ) (name : Name) (v : Value) (p : Program) → is_length (put heap o name v) ≡ true
+      → running (Rattle.js_machine.specs.References.put o name v p) n fs vs heap hosts beats steps out ≡ running p n fs vs (written heap o name v) hosts beats steps out
+  put_ok o name v p h =
+      put_goes o name v p throws_range_error
+      ∙ ap (λ b. running (if b then p else throws_range_error) n fs vs (written heap o name v) hosts beats steps out) h
 
-  pub put_bad : (name : Name) (v : Value) (p : Program) → is_length (put heap global_object name v) ≡ false
-      → running (Rattle.js_machine.specs.References.put global_object name v p) n fs vs heap hosts beats steps out
-      ≡ rest control.Throw n fs (object_value (length (written heap global_object name v)) ∷ vs) (written heap global_object name v ++ error_object built.RangeErrorPrototype ∷ []) hosts beats steps out
+  pub put_bad : (o : ℕ) (name : Name) (v : Value) (p : Program) → is_length (put heap o name v) ≡ false
+      → running (Rattle.js_machine.specs.References.put o name v p) n fs vs heap hosts beats steps out
+      ≡ rest control.Throw n fs (object_value (length (written heap o name v)) ∷ vs) (written heap o name v ++ error_object built.RangeErrorPrototype ∷ []) hosts beats steps out
   unfolding rest
-  put_bad name v p h =
-      put_goes name v p throws_range_error
-      ∙ ap (λ b. running (if b then p else throws_range_error) n fs vs (written heap global_object name v) hosts beats steps out) h
+  put_bad o name v p h =
+      put_goes o name v p throws_range_error
+      ∙ ap (λ b. running (if b then p else throws_range_error) n fs vs (written heap o name v) hosts beats steps out) h
 
   pub store_none : (name : Option Name) (v w : Value) → name ≡ None → in_store name v w n fs vs heap hosts beats steps out ≡ rest control.Give n fs (w ∷ vs) heap hosts beats steps out
   unfolding in_store rest
@@ -151,14 +160,14 @@ module _ (n : ℕ) (fs : List Frame) (vs : List Value) (heap : Heap) (hosts : Li
   unfolding in_store rest
   store_ok t name v w e h =
       ap (λ t. running (stored (name_in t) v w) n fs vs heap hosts beats steps out) e
-      ∙ put_ok name v (gives w) h
+      ∙ put_ok global_object name v (gives w) h
 
   pub store_bad : (t : tree.Expr) (name : Name) (v w : Value) (ws : List Value) (after : Heap) → t ≡ tree.Ident name → ws ≡ vs → after ≡ written heap global_object name v → is_length (put heap global_object name v) ≡ false
       → in_store (name_in t) v w n fs vs heap hosts beats steps out ≡ rest control.Throw n fs (object_value (length after) ∷ ws) (after ++ error_object built.RangeErrorPrototype ∷ []) hosts beats steps out
   unfolding in_store
   store_bad t name v w ws after e g f h =
       ap (λ t. running (stored (name_in t) v w) n fs vs heap hosts beats steps out) e
-      ∙ (put_bad name v (gives w) h
+      ∙ (put_bad global_object name v (gives w) h
       ∙ (sym (ap (λ after. rest control.Throw n fs (object_value (length after) ∷ vs) (after ++ error_object built.RangeErrorPrototype ∷ []) hosts beats steps out) f)
       ∙ sym (ap (λ ws. rest control.Throw n fs (object_value (length after) ∷ ws) (after ++ error_object built.RangeErrorPrototype ∷ []) hosts beats steps out) g)))
 

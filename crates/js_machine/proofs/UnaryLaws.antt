@@ -10,7 +10,7 @@ use Rattle.js_values.specs.Values.{type_of}
 use Rattle.object_heap.specs.declared.object.Class.{Class}
 use Rattle.object_heap.specs.declared.object.Class.TheVariants as class
 use Rattle.object_heap.specs.BuiltIns.{which}
-use Rattle.object_heap.specs.Get.{met}
+use Rattle.object_heap.specs.Get.{has_property, met}
 use Rattle.object_heap.specs.Names.{Name}
 use Rattle.object_heap.specs.Objects.{Heap, class_of}
 use Rattle.js_tree.specs.declared.tree.Expr.{Expr}
@@ -27,7 +27,8 @@ use Rattle.js_machine.specs.declared.frame.End.TheVariants as end
 use Rattle.js_machine.specs.declared.frame.Unbuilt.TheVariants as unbuilt
 use Rattle.js_machine.specs.declared.hosts.HostCall.{HostCall}
 use Rattle.js_machine.specs.Asks.{Program, AnExpr, Tick}
-use Rattle.js_machine.specs.Built.{is_built_prefix, is_member, is_name}
+use Rattle.js_machine.specs.Built.{is_name, is_plain_prefix}
+use Rattle.js_machine.specs.Members.{is_member}
 use Rattle.js_machine.specs.Calls.{reference}
 use Rattle.js_machine.specs.Expressions.{expression}
 use Rattle.js_machine.specs.Frames.{gives, value_of}
@@ -40,7 +41,8 @@ use Rattle.js_machine.specs.References.{Reference, NoReference, global_object, i
 use Rattle.js_machine.specs.Rest.{Outside, in_change, in_expr, in_type, in_value, rest, running, state_of}
 use Rattle.js_machine.specs.Stacks.{top, below}
 use Rattle.js_machine.specs.State.{Callee, function_callee, kind_by, kind_in, kind_of}
-use Rattle.js_machine.specs.Unary.{type_of_reference}
+use Rattle.js_machine.specs.Unary.{delete_reference, type_of_reference}
+use Rattle.object_heap.specs.Changes.{can_delete, deleted}
 use Rattle.js_machine.proofs.AssignmentLaws.{named}
 use Rattle.js_machine.proofs.NameLaws.{is_met, is_not_met}
 use Rattle.js_machine.proofs.Operating.{GoesOn, goes_on, stops, asks, number_goes}
@@ -113,7 +115,7 @@ reference_is (tree.Cond test first second) k h g = refl
 reference_is (tree.Assign op target right) k h g = refl
 reference_is (tree.Late number) k h g = refl
 
-no_member : (e : tree.Expr) → is_built_prefix prefix.TypeOf e ≡ true → is_member e ≡ false
+no_member : (e : tree.Expr) → not (is_member e) ≡ true → is_member e ≡ false
 no_member e h = by (is_member e) h
   where
     by : (b : Bool) → not b ≡ true → b ≡ false
@@ -218,7 +220,7 @@ module _ (n : ℕ) (fs : List Frame) (vs : List Value) (heap : Heap) (hosts : Li
       → running (resolve (0 ∷ []) name (λ it. type_of_reference it (λ text. gives (value.Str text)))) n fs vs heap hosts beats steps out ≡ running (type_told value.Undefined) n fs vs heap hosts beats steps out
   type_unbound name e = ap (λ b. running (type_of_reference (if_global name b) (λ text. gives (value.Str text))) n fs vs heap hosts beats steps out) (is_not_met (met heap global_object name) e)
 
-  pub typeof_value : (operand : Expr) → name_in (expr operand) ≡ None → is_built_prefix prefix.TypeOf (expr operand) ≡ true
+  pub typeof_value : (operand : Expr) → name_in (expr operand) ≡ None → is_plain_prefix prefix.TypeOf (expr operand) ≡ true
       → in_expr (tree.Prefix prefix.TypeOf (expr operand)) n fs vs heap hosts beats steps out ≡ rest (control.Expr operand) n (frame.Type ∷ fs) vs heap hosts beats steps out
   unfolding in_expr rest
   typeof_value operand h g = ap (λ p. running p n fs vs heap hosts beats steps out) (reference_is (expr operand) (λ it. type_of_reference it (λ text. gives (value.Str text))) h (no_member (expr operand) g))
@@ -247,7 +249,50 @@ module _ (n : ℕ) (fs : List Frame) (vs : List Value) (heap : Heap) (hosts : Li
       ∙ (step n fs vs heap hosts beats steps out (resolve (0 ∷ []) name (λ it. type_of_reference it (λ text. gives (value.Str text)))) h
       ∙ type_unbound (n - 1) fs vs heap hosts beats (steps + 1) out name f)
 
+module _ (n : ℕ) (fs : List Frame) (vs : List Value) (heap : Heap) (hosts : List HostCall) (beats steps : ℕ) (out : Outside) where
+  -- ---- delete
+
+  pub delete_value : (operand : Expr) → name_in (expr operand) ≡ None → is_plain_prefix prefix.Delete (expr operand) ≡ true
+      → in_expr (tree.Prefix prefix.Delete (expr operand)) n fs vs heap hosts beats steps out ≡ rest (control.Expr operand) n (frame.Unary prefix.Delete ∷ fs) vs heap hosts beats steps out
+  unfolding in_expr rest
+  delete_value operand h g = ap (λ p. running p n fs vs heap hosts beats steps out) (reference_is (expr operand) (λ it. delete_reference it (λ b. gives (value.Bool b))) h (no_member (expr operand) g))
+
+  pub delete_out : (operand : Expr) (name : Name) → expr operand ≡ tree.Ident name → n ≡ 0
+      → in_expr (tree.Prefix prefix.Delete (expr operand)) n fs vs heap hosts beats steps out ≡ rest (control.End end.OutOfSteps) n fs vs heap hosts beats steps out
+  unfolding in_expr
+  delete_out operand name e h =
+      ap (λ q. running (expression (tree.Prefix prefix.Delete q) script_env) n fs vs heap hosts beats steps out) e
+      ∙ none n fs vs heap hosts beats steps out (resolve (0 ∷ []) name (λ it. delete_reference it (λ b. gives (value.Bool b)))) h
+
+  deleted_by : (name : Name) (b : Bool) → has_property heap global_object name ≡ b
+      → running (resolve (0 ∷ []) name (λ it. delete_reference it (λ b. gives (value.Bool b)))) n fs vs heap hosts beats steps out
+      ≡ running (delete_reference (if_global name b) (λ b. gives (value.Bool b))) n fs vs heap hosts beats steps out
+  deleted_by name b e = ap (λ b. running (delete_reference (if_global name b) (λ b. gives (value.Bool b))) n fs vs heap hosts beats steps out) e
+
+module _ (n : ℕ) (fs : List Frame) (vs : List Value) (heap : Heap) (hosts : List HostCall) (beats steps : ℕ) (out : Outside) where
+  pub delete_unbound : (operand : Expr) (name : Name) (o : ℕ) → expr operand ≡ tree.Ident name → (n ≡ 0 → ⊥) → o ≡ global_object → has_property heap o name ≡ false
+      → in_expr (tree.Prefix prefix.Delete (expr operand)) n fs vs heap hosts beats steps out ≡ rest control.Give (n - 1) fs (value.Bool true ∷ vs) heap hosts beats (steps + 1) out
+  unfolding in_expr rest
+  delete_unbound operand name o e h g f =
+      ap (λ q. running (expression (tree.Prefix prefix.Delete q) script_env) n fs vs heap hosts beats steps out) e
+      ∙ (step n fs vs heap hosts beats steps out (resolve (0 ∷ []) name (λ it. delete_reference it (λ b. gives (value.Bool b)))) h
+      ∙ deleted_by (n - 1) fs vs heap hosts beats (steps + 1) out name false (sym (ap (λ o. has_property heap o name) g) ∙ f))
+
+  pub delete_bound : (operand : Expr) (name : Name) (o : ℕ) (b : Bool) (after : Heap) → expr operand ≡ tree.Ident name → (n ≡ 0 → ⊥) → o ≡ global_object → has_property heap o name ≡ true
+      → b ≡ can_delete heap o name → after ≡ deleted o name heap
+      → in_expr (tree.Prefix prefix.Delete (expr operand)) n fs vs heap hosts beats steps out ≡ rest control.Give (n - 1) fs (value.Bool b ∷ vs) after hosts beats (steps + 1) out
+  unfolding in_expr rest
+  delete_bound operand name o b after e h g f k d =
+      ap (λ q. running (expression (tree.Prefix prefix.Delete q) script_env) n fs vs heap hosts beats steps out) e
+      ∙ (step n fs vs heap hosts beats steps out (resolve (0 ∷ []) name (λ it. delete_reference it (λ b. gives (value.Bool b)))) h
+      ∙ (deleted_by (n - 1) fs vs heap hosts beats (steps + 1) out name true (sym (ap (λ o. has_property heap o name) g) ∙ f)
+      ∙ (sym (ap (λ o. running (gives (value.Bool (can_delete heap o name))) (n - 1) fs vs (deleted o name heap) hosts beats (steps + 1) out) g)
+      ∙ (sym (ap (λ b. running (gives (value.Bool b)) (n - 1) fs vs (deleted o name heap) hosts beats (steps + 1) out) k)
+      ∙ sym (ap (λ after. running (gives (value.Bool b)) (n - 1) fs vs after hosts beats (steps + 1) out) d)))))
+
 -- ---- the cases of one call each
+
+pub ruleset delete_laws = (delete_value, delete_out, delete_unbound, delete_bound)
 
 pub ruleset prefix_laws = (in_void, in_plus, in_minus, in_bit_not, in_not)
 

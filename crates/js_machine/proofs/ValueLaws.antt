@@ -16,6 +16,7 @@ use Rattle.js_machine.specs.declared.hosts.HostCall.{HostCall}
 use Rattle.js_machine.specs.Asks.{Tail, AnExpr}
 use Rattle.js_machine.specs.Page.{script_env}
 use Rattle.js_tree.specs.declared.tree.BinaryOp.{BinaryOp}
+use Rattle.js_tree.specs.declared.tree.BinaryOp.TheVariants as op
 use Rattle.std.specs.Prelude.{Ok, Err}
 use Rattle.js_values.specs.declared.reason.Reason.{Reason}
 use Rattle.js_machine.specs.Operated.{operated}
@@ -31,6 +32,11 @@ module _ (n : ℕ) (fs : List Frame) (vs : List Value) (heap : Heap) (hosts : Li
   pub v_left : (op : BinaryOp) (right : Expr) → in_value (frame.Left op right) n fs vs heap hosts beats steps out ≡ rest (control.Expr right) n (frame.Right op ∷ fs) vs heap hosts beats steps out
   unfolding in_value rest
   v_left op right = refl
+
+  -- `in` waits as any operator does
+  pub v_left_in : (right : Expr) → in_value (frame.Left op.In right) n fs vs heap hosts beats steps out ≡ rest (control.Expr right) n (frame.In ∷ fs) vs heap hosts beats steps out
+  unfolding in_value rest
+  v_left_in right = refl
 
   pub v_right : (op : BinaryOp) (r : Value) → operated op (top (below vs)) (top vs) ≡ Some (Ok r) → in_value (frame.Right op) n fs vs heap hosts beats steps out ≡ rest control.Give n fs (r ∷ below (below vs)) heap hosts beats steps out
   unfolding in_value rest
@@ -90,6 +96,8 @@ module _ (n : ℕ) (fs : List Frame) (vs : List Value) (heap : Heap) (hosts : Li
   v_next ss i = refl
 
 -- ---- the cases of one call each
+
+pub ruleset left_laws = (v_left, v_left_in)
 
 pub ruleset right_laws = (v_right, v_right_stops, v_right_asks)
 

@@ -132,7 +132,7 @@ module _ (n : ℕ) (fs : List Frame) (vs : List Value) (heap : Heap) (hosts : Li
   unfolding in_value in_variables
   v_var_ok items i name e f h =
       ap (λ vs'. running (initialised vs' done (top vs)) n fs (below vs) heap hosts beats steps out) f
-      ∙ put_ok n fs (below vs) heap hosts beats steps out name (top vs) (variables (var_items_from items (i + 1)) script_env done) h
+      ∙ put_ok n fs (below vs) heap hosts beats steps out global_object name (top vs) (variables (var_items_from items (i + 1)) script_env done) h
 
   pub v_var_bad : (items : List VarItem) (i : ℕ) (name : Name) (e : tree.MaybeExpr) (v : Value) (ws : List Value) (after : Heap) → var_items_from items i ≡ tree.MoreVarItems name e (var_items_from items (i + 1)) → v ≡ top vs → ws ≡ below vs → after ≡ written heap global_object name v → is_length (put heap global_object name v) ≡ false
       → in_value (frame.Var i items) n fs vs heap hosts beats steps out ≡ rest control.Throw n fs (object_value (length after) ∷ ws) (after ++ error_object built.RangeErrorPrototype ∷ []) hosts beats steps out
@@ -140,7 +140,7 @@ module _ (n : ℕ) (fs : List Frame) (vs : List Value) (heap : Heap) (hosts : Li
   v_var_bad items i name e v ws after f is rest_is g h =
       ap (λ vs'. running (initialised vs' done (top vs)) n fs (below vs) heap hosts beats steps out) f
       ∙ (sym (ap (λ v. running (initialised (tree.MoreVarItems name e (var_items_from items (i + 1))) done v) n fs (below vs) heap hosts beats steps out) is)
-      ∙ (put_bad n fs (below vs) heap hosts beats steps out name v (variables (var_items_from items (i + 1)) script_env done) h
+      ∙ (put_bad n fs (below vs) heap hosts beats steps out global_object name v (variables (var_items_from items (i + 1)) script_env done) h
       ∙ (sym (ap (λ after. rest control.Throw n fs (object_value (length after) ∷ below vs) (after ++ error_object built.RangeErrorPrototype ∷ []) hosts beats steps out) g)
       ∙ sym (ap (λ ws. rest control.Throw n fs (object_value (length after) ∷ ws) (after ++ error_object built.RangeErrorPrototype ∷ []) hosts beats steps out) rest_is))))
 
@@ -174,7 +174,7 @@ module _ (n : ℕ) (fs : List Frame) (vs : List Value) (heap : Heap) (hosts : Li
   unfolding in_value in_header
   v_for_ok items i s name e f h =
       ap (λ vs'. running (initialised vs' (turning (loop_parts (stmt s))) (top vs)) n fs (below vs) heap hosts beats steps out) f
-      ∙ put_ok n fs (below vs) heap hosts beats steps out name (top vs) (variables (var_items_from items (i + 1)) script_env (turning (loop_parts (stmt s)))) h
+      ∙ put_ok n fs (below vs) heap hosts beats steps out global_object name (top vs) (variables (var_items_from items (i + 1)) script_env (turning (loop_parts (stmt s)))) h
 
   pub v_for_bad : (items : List VarItem) (i : ℕ) (s : Stmt) (name : Name) (e : tree.MaybeExpr) (v : Value) (ws : List Value) (after : Heap) → var_items_from items i ≡ tree.MoreVarItems name e (var_items_from items (i + 1)) → v ≡ top vs → ws ≡ below vs → after ≡ written heap global_object name v → is_length (put heap global_object name v) ≡ false
       → in_value (frame.ForVar i items s) n fs vs heap hosts beats steps out ≡ rest control.Throw n fs (object_value (length after) ∷ ws) (after ++ error_object built.RangeErrorPrototype ∷ []) hosts beats steps out
@@ -182,7 +182,7 @@ module _ (n : ℕ) (fs : List Frame) (vs : List Value) (heap : Heap) (hosts : Li
   v_for_bad items i s name e v ws after f is rest_is g h =
       ap (λ vs'. running (initialised vs' (turning (loop_parts (stmt s))) (top vs)) n fs (below vs) heap hosts beats steps out) f
       ∙ (sym (ap (λ v. running (initialised (tree.MoreVarItems name e (var_items_from items (i + 1))) (turning (loop_parts (stmt s))) v) n fs (below vs) heap hosts beats steps out) is)
-      ∙ (put_bad n fs (below vs) heap hosts beats steps out name v (variables (var_items_from items (i + 1)) script_env (turning (loop_parts (stmt s)))) h
+      ∙ (put_bad n fs (below vs) heap hosts beats steps out global_object name v (variables (var_items_from items (i + 1)) script_env (turning (loop_parts (stmt s)))) h
       ∙ (sym (ap (λ after. rest control.Throw n fs (object_value (length after) ∷ below vs) (after ++ error_object built.RangeErrorPrototype ∷ []) hosts beats steps out) g)
       ∙ sym (ap (λ ws. rest control.Throw n fs (object_value (length after) ∷ ws) (after ++ error_object built.RangeErrorPrototype ∷ []) hosts beats steps out) rest_is))))
 

@@ -57,7 +57,7 @@ value_at_once (tree.Late number) heap = None
 -- given it
 pub record Pushed (e : declared_expr.Expr) (old new : Machine) : Type 0 where
   pub same : (f : Frame) (out : Outside)
-    → rest (control.Expr e) old.clock.1 (f ∷ old.frames) old.values old.heap old.hosts old.beats
+      → rest (control.Expr e) old.clock.1 (f ∷ old.frames) old.values old.heap old.hosts old.beats
       old.clock.0 out ≡ at (in_value f) new out
   pub gives : (out : Outside) → at (rest (control.Expr e)) old out ≡ at (rest control.Give) new out
   pub frames : new.frames ≡ old.frames

@@ -1,5 +1,5 @@
 -- What of the language the machine runs so far.
-use Rattle.std.specs.Prelude.{◌^◌, nat_lt, Bool, true, false, not, Option, Some, None, is_some}
+use Rattle.std.specs.Prelude.{◌^◌, nat_lt, if◌then◌else◌, Bool, true, false, not, Option, Some, None, is_some}
 use Rattle.object_heap.specs.Names.{Name}
 use Rattle.js_tree.specs.declared.tree.PrefixOp.{PrefixOp}
 use Rattle.js_tree.specs.declared.tree.PrefixOp.TheVariants as prefix
@@ -7,7 +7,7 @@ use Rattle.js_tree.specs.Tree.{Expr}
 use Rattle.js_tree.specs.Tree.{Stmt}
 use Rattle.js_tree.specs.Tree as tree
 use Rattle.js_machine.specs.Globals.{name_in}
-use Rattle.js_machine.specs.Members.{dot_name}
+use Rattle.js_machine.specs.Members.{dot_name, is_member}
 
 -- ---- statements
 
@@ -22,37 +22,52 @@ is_begun _ = true
 abbrev pub is_name : Expr → Bool
 is_name e = is_some (name_in e)
 
--- a dot or an index
-abbrev pub is_member : Expr → Bool
-is_member (tree.Dot object name) = true
-is_member (tree.Index object key) = true
-is_member _ = false
-
 abbrev pub is_dot : Expr → Bool
 is_dot e = is_some (dot_name e)
 
--- an operator on a value, and on a name `typeof`, `++` and `--`
+-- a target
+abbrev pub is_target : Expr → Bool
+is_target e = if is_member e then true else is_name e
+
+-- an operator on a value, `typeof`, `delete`, and `++` and `--` of a target
 abbrev pub is_built_prefix : PrefixOp → Expr → Bool
-is_built_prefix prefix.Delete operand = false
+is_built_prefix prefix.Delete operand = true
 is_built_prefix prefix.Void operand = true
-is_built_prefix prefix.TypeOf operand = not (is_member operand)
-is_built_prefix prefix.Increment operand = is_name operand
-is_built_prefix prefix.Decrement operand = is_name operand
+is_built_prefix prefix.TypeOf operand = true
+is_built_prefix prefix.Increment operand = is_target operand
+is_built_prefix prefix.Decrement operand = is_target operand
 is_built_prefix prefix.Plus operand = true
 is_built_prefix prefix.Minus operand = true
 is_built_prefix prefix.BitNot operand = true
 is_built_prefix prefix.Not operand = true
+
+-- such an operator, where its target is no member
+abbrev pub is_plain_prefix : PrefixOp → Expr → Bool
+is_plain_prefix prefix.Delete operand = not (is_member operand)
+is_plain_prefix prefix.Void operand = true
+is_plain_prefix prefix.TypeOf operand = not (is_member operand)
+is_plain_prefix prefix.Increment operand = is_name operand
+is_plain_prefix prefix.Decrement operand = is_name operand
+is_plain_prefix prefix.Plus operand = true
+is_plain_prefix prefix.Minus operand = true
+is_plain_prefix prefix.BitNot operand = true
+is_plain_prefix prefix.Not operand = true
 
 abbrev pub is_built_expression : Expr → Bool
 is_built_expression (tree.Num n) = nat_lt n (2 ^ 53)
 is_built_expression (tree.Str text) = true
 is_built_expression (tree.Truth b) = true
 is_built_expression tree.Null = true
+is_built_expression tree.This = true
 is_built_expression (tree.Ident name) = true
-is_built_expression (tree.Postfix target op) = is_name target
+is_built_expression (tree.Array es) = true
+is_built_expression (tree.Object ps) = true
+is_built_expression (tree.Dot object name) = true
+is_built_expression (tree.Index object key) = true
+is_built_expression (tree.Postfix target op) = is_target target
 is_built_expression (tree.Call callee es) = is_dot callee
 is_built_expression (tree.Prefix op operand) = is_built_prefix op operand
-is_built_expression (tree.Assign op target right) = is_name target
+is_built_expression (tree.Assign op target right) = is_target target
 is_built_expression (tree.Binary op left right) = true
 is_built_expression (tree.And left right) = true
 is_built_expression (tree.Or left right) = true

@@ -115,8 +115,9 @@ unary prefix.Plus v = to_number v (λ n. gives (value.Num n))
 unary prefix.Minus v = to_number v (λ n. gives (value.Num (negation_of n)))
 unary prefix.BitNot v = to_number v (λ n. gives (value.Num (complement n)))
 unary prefix.Not v = gives (value.Bool (not (truth_of v)))
+-- of what is no reference
+unary prefix.Delete v = gives (value.Bool true)
 -- none of these: `typeof`, and the operators on targets
-unary prefix.Delete v = gives v
 unary prefix.TypeOf v = gives v
 unary prefix.Increment v = gives v
 unary prefix.Decrement v = gives v
@@ -138,7 +139,7 @@ unary_of prefix.Plus v = on_number prefix.Plus v
 unary_of prefix.Minus v = on_number prefix.Minus v
 unary_of prefix.BitNot v = on_number prefix.BitNot v
 unary_of prefix.Not v = Some (Ok (value.Bool (not (truth_of v))))
-unary_of prefix.Delete v = Some (Ok v)
+unary_of prefix.Delete v = Some (Ok (value.Bool true))
 unary_of prefix.TypeOf v = Some (Ok v)
 unary_of prefix.Increment v = Some (Ok v)
 unary_of prefix.Decrement v = Some (Ok v)

@@ -27,6 +27,7 @@ pub mod Globals
 pub mod Skipped
 pub mod HostCalls
 pub mod Members
+pub mod Literals
 pub mod Built
 pub mod NotBuilt
 pub mod Rest

@@ -1,6 +1,7 @@
 -- Where the machine stops since what comes next is not built yet.
-use Rattle.std.specs.Prelude.{◌≡◌, ℕ, Bool, true, false, List, [], ◌∷◌, Option, Some, None}
+use Rattle.std.specs.Prelude.{◌≡◌, Bool, true, false, List, [], ◌∷◌, Option, Some, None}
 use Rattle.js_values.specs.declared.value.Value.{Value}
+use Rattle.js_values.specs.Values.{number_of, text_of}
 use Rattle.object_heap.specs.Names.{Name}
 use Rattle.object_heap.specs.Objects.{Heap}
 use Rattle.js_tree.specs.Plain.{expr, stmt}
@@ -17,8 +18,7 @@ use Rattle.js_machine.specs.declared.frame.Unbuilt.TheVariants as unbuilt
 use Rattle.js_machine.specs.declared.machine.Machine.{Machine}
 use Rattle.js_machine.specs.Operated.{is_object, operated}
 use Rattle.js_machine.specs.Globals.{name_in, unary_of, value_of_global}
-use Rattle.js_machine.specs.declared.calls.Member.TheVariants as member
-use Rattle.js_machine.specs.Members.{base_on, dot_name, is_native, member_in}
+use Rattle.js_machine.specs.Members.{is_native}
 use Rattle.js_machine.specs.Built.{is_begun, is_built_expression, is_built_statement}
 use Rattle.js_machine.specs.Stacks.{top, below}
 
@@ -45,6 +45,14 @@ LooksInside (frame.Var i items ∷ fs) vs = ⊥
 LooksInside (frame.ForVar i items s ∷ fs) vs = ⊥
 LooksInside (frame.Callee callee es ∷ fs) vs = ⊥
 LooksInside (frame.Argument i callee es ∷ fs) vs = ⊥
+LooksInside (frame.Base e ∷ fs) vs = ⊥
+LooksInside (frame.Key e ∷ fs) vs = text_of (top vs) ≡ None
+LooksInside (frame.Put ∷ fs) vs = ⊥
+LooksInside (frame.PutWith op ∷ fs) vs = operated op (top (below vs)) (top vs) ≡ None
+LooksInside (frame.Changed op gives_new ∷ fs) vs = number_of (top vs) ≡ None
+LooksInside (frame.Element i es ∷ fs) vs = ⊥
+LooksInside (frame.Pair i ps ∷ fs) vs = ⊥
+LooksInside (frame.In ∷ fs) vs = text_of (top (below vs)) ≡ None
 
 -- whether a list goes on with a statement that is begun, or ends
 abbrev pub goes_on_built : Stmts → Bool
@@ -64,11 +72,6 @@ abbrev pub names_object : Heap → Option Name → Bool
 names_object heap None = false
 names_object heap (Some name) = holds_object (value_of_global heap name)
 
--- the property is one of a primitive value
-abbrev pub CallsUnbuilt : Heap → List Value → ℕ → Option Name → Type 0
-CallsUnbuilt heap vs count None = ⊥
-CallsUnbuilt heap vs count (Some name) = member_in heap (base_on count vs) name ≡ member.Unbuilt
-
 abbrev pub IsNotBuilt : Unbuilt → Machine → Type 0
 IsNotBuilt (unbuilt.Expr e) m = is_built_expression (expr e) ≡ false
 IsNotBuilt (unbuilt.Stmt s) m = is_built_statement (stmt s) ≡ false
@@ -79,8 +82,6 @@ IsNotBuilt (unbuilt.Script ss) m = has_functions (functions_of (view.body ss)) �
 -- its value is to be converted
 IsNotBuilt (unbuilt.Change op gives_new target) m =
     names_object m.heap (name_in (expr target)) ≡ true
-IsNotBuilt (unbuilt.Call count callee) m =
-    CallsUnbuilt m.heap m.values count (dot_name (expr callee))
 -- a function of the start
 IsNotBuilt (unbuilt.Enter count o) m = is_native m.heap o.0 ≡ true
 

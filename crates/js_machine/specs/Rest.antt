@@ -12,14 +12,17 @@ use Rattle.exceptions_core.specs.declared.completion.Frame.TheVariants as frames
 use Rattle.exceptions_core.specs.declared.completion.Landing.{Landing}
 use Rattle.object_heap.specs.Names.{Name}
 use Rattle.object_heap.specs.Objects.{Heap}
+use Rattle.js_tree.specs.declared.tree.BinaryOp.{BinaryOp}
+use Rattle.js_tree.specs.declared.tree.BinaryOp.TheVariants as op
+use Rattle.js_tree.specs.declared.tree.Pair.{Pair}
 use Rattle.js_tree.specs.declared.tree.PostfixOp.{PostfixOp}
 use Rattle.js_tree.specs.declared.tree.Expr as declared_expr
 use Rattle.js_tree.specs.declared.tree.Stmt as declared_stmt
 use Rattle.js_tree.specs.declared.tree.VarItem.{VarItem}
-use Rattle.js_tree.specs.Tree.{Expr, Stmt}
+use Rattle.js_tree.specs.Tree.{Expr, NoElements, Stmt}
 use Rattle.js_tree.specs.Plain.{expr, stmt}
 use Rattle.js_tree.specs.Plain as view
-use Rattle.js_code.specs.Cursors.{exprs_from, stmts_from, var_items_from}
+use Rattle.js_code.specs.Cursors.{elements_from, exprs_from, pairs_from, stmts_from, var_items_from}
 use Rattle.js_code.specs.Projections.{IfTree, LoopTree, if_parts, loop_parts}
 use Rattle.js_machine.specs.declared.hosts.HostCall.{HostCall}
 use Rattle.js_machine.specs.declared.machine.Machine.{Machine}
@@ -50,7 +53,12 @@ use Rattle.js_machine.specs.Run as trace
 use Rattle.js_machine.specs.Page.{script_env}
 use Rattle.js_machine.specs.Calls.{arguments}
 use Rattle.js_machine.specs.Conversions.{to_object}
-use Rattle.js_machine.specs.Members.{arguments_on, base_on, dot_name, member_called}
+use Rattle.js_machine.specs.Literals.{element_given, elements_left, object_number}
+use Rattle.js_machine.specs.Literals.{pair_given, pairs_left}
+use Rattle.js_machine.specs.Members.{arguments_on, base_on, based, changed_member, dot_name}
+use Rattle.js_machine.specs.Members.{changed_to, has_named, keyed, member_called, named, putting}
+use Rattle.js_machine.specs.Members.{putting_with, target_of, text_in, with_member}
+use Rattle.js_machine.specs.References.{get_on, put_on}
 use Rattle.js_machine.specs.Stacks.{top, below, without}
 
 -- ---- parts of nodes
@@ -135,6 +143,17 @@ waits (frame.Callee callee es) vs = on_value (λ base. to_object base
 waits (frame.Argument i callee es) vs = on_value (λ v.
     arguments (exprs_from es (i + 1)) script_env (arguments_on i vs ++ v ∷ [])
     (member_called (dot_name (expr callee)) (base_on i vs)))
+waits (frame.Base e) vs = on_value (based (target_of (expr e)) (expr e))
+waits (frame.Key e) vs = on_value (keyed (expr e) (top vs))
+waits frame.Put vs = on_value (λ v. put_on (top (below vs)) (text_in (top vs)) v (gives v))
+waits (frame.PutWith op) vs = on_value (λ w. operate op (top vs) w (λ r.
+    put_on (top (below (below vs))) (text_in (top (below vs))) r (gives r)))
+waits (frame.Changed op gives_new) vs =
+    on_value (changed_member op gives_new (top (below vs)) (text_in (top vs)))
+waits (frame.Element i es) vs =
+    on_value (element_given (elements_from es (i + 1)) (object_number (top vs)) i)
+waits (frame.Pair i ps) vs = on_value (pair_given (pairs_from ps i) (object_number (top vs)))
+waits frame.In vs = on_value (λ w. operate op.In (top vs) w gives)
 
 -- the values below those that the frame owns
 abbrev pub under : Frame → List Value → List Value
@@ -158,6 +177,14 @@ under (frame.Var i items) vs = vs
 under (frame.ForVar i items s) vs = vs
 under (frame.Callee callee es) vs = vs
 under (frame.Argument i callee es) vs = below (without i vs)
+under (frame.Base e) vs = vs
+under (frame.Key e) vs = below vs
+under frame.Put vs = below (below vs)
+under (frame.PutWith op) vs = below (below (below vs))
+under (frame.Changed op gives_new) vs = below (below vs)
+under (frame.Element i es) vs = below vs
+under (frame.Pair i ps) vs = below vs
+under frame.In vs = below vs
 
 abbrev pub stack : List Frame → List Value → Stack
 stack [] vs = []
@@ -236,7 +263,6 @@ rest (control.Unbuilt (unbuilt.List ss i)) = running (statements (stmts_from ss 
 rest (control.Unbuilt (unbuilt.Script ss)) = starting (enter_script (view.body ss) script_env)
 rest (control.Unbuilt (unbuilt.Change op gives_new target)) =
     running (changing op gives_new (name_in (expr target)))
-rest (control.Unbuilt (unbuilt.Call count callee)) = calling count callee
 rest (control.Unbuilt (unbuilt.Enter count o)) = entering count o
 
 -- ---- inside a node whose step was taken
@@ -279,6 +305,57 @@ in_arguments i callee es n fs vs = running
     (arguments (exprs_from es i) script_env (arguments_on i vs)
     (member_called (dot_name (expr callee)) (base_on i vs)))
     n fs (below (without i vs))
+
+-- behind the base and the name of the member that a node works on
+unfoldable pub in_member : Expr → Value → Name → Left
+in_member e base name = running (with_member e base name)
+
+-- behind the text of a key
+unfoldable pub in_name : Expr → Value → Name → Left
+in_name e base name = running (named e base name)
+
+-- the same for `in`
+unfoldable pub in_has : ℕ → Name → Left
+in_has o name = running (has_named o name)
+
+-- its type is told
+unfoldable pub in_type_of : Value → Name → Left
+in_type_of base name = running (get_on base name type_told)
+
+-- the right side of an assignment to it, without an operator and with one
+unfoldable pub in_putting : Value → Name → Expr → Left
+in_putting base name right = running (putting right base name)
+
+unfoldable pub in_put_with : BinaryOp → Value → Name → Expr → Left
+in_put_with op base name right = running (putting_with op right base name)
+
+-- the number before, and the number after
+unfoldable pub in_change_of : PostfixOp → Bool → Value → Name → Left
+in_change_of op gives_new base name =
+    running (get_on base name (changed_member op gives_new base name))
+
+unfoldable pub in_changed_to : PostfixOp → Bool → Value → Name → Num → Left
+in_changed_to op gives_new base name before = running (changed_to op gives_new base name before)
+
+unfoldable pub in_number : PostfixOp → Bool → Value → Name → Value → Left
+in_number op gives_new base name old = running (changed_member op gives_new base name old)
+
+-- a property of a base is written, and the value given
+unfoldable pub in_put : Value → Name → Value → Value → Left
+in_put base name v w = running (put_on base name v (gives w))
+
+-- a literal from one element or pair on, above its object
+unfoldable pub in_elements : ℕ → List (Option declared_expr.Expr) → Left
+in_elements i es n fs vs =
+    running (elements_left (elements_from es i) (object_number (top vs)) i) n fs (below vs)
+
+unfoldable pub in_array_end : ℕ → Left
+in_array_end count n fs vs =
+    running (elements_left NoElements (object_number (top vs)) count) n fs (below vs)
+
+unfoldable pub in_pairs : ℕ → List Pair → Left
+in_pairs i ps n fs vs =
+    running (pairs_left (pairs_from ps i) (object_number (top vs))) n fs (below vs)
 
 -- the items of a `var` from one on
 unfoldable pub in_variables : List VarItem → ℕ → Left

@@ -25,7 +25,7 @@ use object_heap::BuiltIn;
 use std::alloc::AllocError;
 
 /// One more or one less.
-fn changed(op: PostfixOp, n: Num) -> Result<Num, Reason>
+pub(crate) fn changed(op: PostfixOp, n: Num) -> Result<Num, Reason>
     ensures { result ≡ change_of op n one }
 {
     match op {
@@ -34,7 +34,7 @@ fn changed(op: PostfixOp, n: Num) -> Result<Num, Reason>
     }
 }
 
-fn number_value(n: &Num) -> Value
+pub(crate) fn number_value(n: &Num) -> Value
     ensures { result ≡ Value.Num n.now }
 {
     Value::Num(*n)

@@ -20,8 +20,8 @@ use std::alloc::{AllocError, Global};
 /// Numbers are below 2^53.
 const NUMBERS: u64 = 1 << 53;
 
-/// The most steps that are taken at once. Where a value asks for more, what was computed of it is
-/// computed again at each level, so a try takes no longer than so many nodes.
+/// The most steps that are taken at once. Where a try finds no value, the parts of the expression
+/// are tried again as each is begun, so a try may go through no more than so many nodes.
 const AT_ONCE: u64 = 32;
 
 /// The deepest operand of so many steps.
@@ -41,7 +41,8 @@ fn whole_literal(n: u64) -> Option<WholeNumber>
 /// The whole number that a name holds.
 #[inline(always)]
 fn whole_in_name(heap: &Heap, name: &Units) -> Option<WholeNumber>
-    ensures { IfSome result (λ n. value_of_global heap.now name.now ≡ Some (Value.Num (Num.Whole n))) }
+    ensures { IfSome result (λ n.
+        value_of_global heap.now name.now ≡ Some (Value.Num (Num.Whole n))) }
 {
     match heap.get(heap.built_in(BuiltIn::Global), name) {
         Some(Prop::Own(Value::Num(Num::Whole(n)))) => Some(*n),
@@ -52,7 +53,8 @@ fn whole_in_name(heap: &Heap, name: &Units) -> Option<WholeNumber>
 #[inline(always)]
 #[tactic(auto, using(crate::proofs::AtOnceLaws::computes_whole))]
 fn whole_by_both(op: BinaryOp, a: WholeNumber, b: WholeNumber) -> Option<WholeNumber>
-    ensures { IfSome result (λ n. spec.operated op (Value.Num (Num.Whole a)) (Value.Num (Num.Whole b))
+    ensures { IfSome result (λ n.
+        spec.operated op (Value.Num (Num.Whole a)) (Value.Num (Num.Whole b))
         ≡ Some (Ok (Value.Num (Num.Whole n)))) }
 {
     let computed = compute(op, Num::Whole(a), Num::Whole(b));
@@ -90,7 +92,8 @@ fn whole(heap: &Heap, e: &ExprCode, depth: u32) -> Option<WholeNumber>
 /// What a comparison of two whole numbers gives.
 #[inline(always)]
 fn truth_by_both(op: BinaryOp, a: WholeNumber, b: WholeNumber) -> Option<bool>
-    ensures { IfSome result (λ c. spec.operated op (Value.Num (Num.Whole a)) (Value.Num (Num.Whole b))
+    ensures { IfSome result (λ c.
+        spec.operated op (Value.Num (Num.Whole a)) (Value.Num (Num.Whole b))
         ≡ Some (Ok (Value.Bool c))) }
 {
     let a = Num::Whole(a);

@@ -5,12 +5,12 @@ ghost use Rattle.std.specs.Prelude.{length, true, IfOk};
 ghost use Rattle.js_tree.specs.Plain.{expr, stmt};
 ghost use Rattle.js_machine.specs.NotBuilt.{StopsRightly};
 ghost use Rattle.js_machine.specs.Built.{is_built_expression, is_built_prefix};
-ghost use Rattle.js_machine.specs.Built.{is_built_statement, is_member, is_plain_jump};
+ghost use Rattle.js_machine.specs.Built.{is_built_statement, is_plain_jump, is_target};
 ghost use Rattle.js_machine.specs.Rest.{Falls, Same, in_expr, in_stmt, rest};
 
-use crate::calls::dot_of;
 use crate::frame::{Control, Frame};
 use crate::machine::Machine;
+use crate::members::{dot_of, has_member, is_member};
 use crate::names::name_of;
 use dl_text::Units;
 use js_code::{ExprCode, ExprNode, ForInitNode, StmtCode, StmtNode};
@@ -20,50 +20,27 @@ use std::alloc::AllocError;
 /// Numbers are below 2^53.
 const NUMBERS: u64 = 1 << 53;
 
+/// Whether an expression is a target: a name, a dot or an index.
+fn is_target(e: &ExprCode) -> bool
+    ensures { result ≡ is_target (expr e.now) }
+{
+    is_member(e) || name_of(e).is_some()
+}
+
 /// Whether the machine can begin an operator with this operand.
 fn is_built_prefix(op: PrefixOp, operand: &ExprCode) -> bool
     ensures { result ≡ is_built_prefix op (expr operand.now) }
 {
     match op {
-        PrefixOp::Delete => false,
-        PrefixOp::TypeOf => !is_member(operand),
-        PrefixOp::Increment => name_of(operand).is_some(),
-        PrefixOp::Decrement => name_of(operand).is_some(),
+        PrefixOp::Delete => true,
+        PrefixOp::TypeOf => true,
+        PrefixOp::Increment => is_target(operand),
+        PrefixOp::Decrement => is_target(operand),
         PrefixOp::Void => true,
         PrefixOp::Plus => true,
         PrefixOp::Minus => true,
         PrefixOp::BitNot => true,
         PrefixOp::Not => true,
-    }
-}
-
-/// Whether an expression is a dot or an index.
-fn is_member(e: &ExprCode) -> bool
-    ensures { result ≡ is_member (expr e.now) }
-{
-    match e.node() {
-        ExprNode::Dot(_, _) => true,
-        ExprNode::Index(_, _) => true,
-        ExprNode::Num(_) => false,
-        ExprNode::Str(_) => false,
-        ExprNode::Bool(_) => false,
-        ExprNode::Null => false,
-        ExprNode::This => false,
-        ExprNode::Name(_) => false,
-        ExprNode::Array(_) => false,
-        ExprNode::Object(_) => false,
-        ExprNode::Func(_) => false,
-        ExprNode::Call(_, _) => false,
-        ExprNode::New(_, _) => false,
-        ExprNode::Postfix(_, _) => false,
-        ExprNode::Prefix(_, _, _) => false,
-        ExprNode::Binary(_, _, _, _) => false,
-        ExprNode::And(_, _) => false,
-        ExprNode::Or(_, _) => false,
-        ExprNode::Comma(_, _) => false,
-        ExprNode::Cond(_, _, _) => false,
-        ExprNode::Assign(_, _, _) => false,
-        ExprNode::Late(_) => false,
     }
 }
 
@@ -81,18 +58,18 @@ pub(crate) fn is_built_expression(e: &ExprCode) -> bool
         ExprNode::Or(_, _) => true,
         ExprNode::Comma(_, _) => true,
         ExprNode::Cond(_, _, _) => true,
-        ExprNode::This => false,
+        ExprNode::This => true,
         ExprNode::Name(_) => true,
-        ExprNode::Array(_) => false,
-        ExprNode::Object(_) => false,
+        ExprNode::Array(_) => true,
+        ExprNode::Object(_) => true,
         ExprNode::Func(_) => false,
-        ExprNode::Dot(_, _) => false,
-        ExprNode::Index(_, _) => false,
+        ExprNode::Dot(_, _) => true,
+        ExprNode::Index(_, _) => true,
         ExprNode::Call(callee, _) => dot_of(callee).is_some(),
         ExprNode::New(_, _) => false,
-        ExprNode::Postfix(target, _) => name_of(target).is_some(),
+        ExprNode::Postfix(target, _) => is_target(target),
         ExprNode::Prefix(op, _, operand) => is_built_prefix(*op, operand),
-        ExprNode::Assign(_, target, _) => name_of(target).is_some(),
+        ExprNode::Assign(_, target, _) => is_target(target),
         ExprNode::Late(_) => false,
     }
 }
@@ -131,12 +108,16 @@ pub(crate) fn is_built_statement(s: &StmtCode) -> bool
 
 impl Machine {
     /// An expression that is built, whose step was taken.
+    #[tactic(auto, using(crate::proofs::BeginLaws::expressions_begun))]
     pub(crate) fn begin(&mut self, e: ExprCode) -> Result<Control, AllocError>
         requires { is_built_expression (expr e) ≡ true }
         ensures same { IfOk result (λ next. Same (in_expr (expr e)) self.old next self.new) }
         ensures falls { IfOk result (λ next. Falls self.old next self.new) }
         ensures rightly { IfOk result (λ next. StopsRightly next self.new) }
     {
+        if has_member(&e) {
+            return self.begin_target(e);
+        }
         match e.node() {
             ExprNode::Num(n) => self.begin_num(*n),
             ExprNode::Str(text) => self.begin_text(text),
@@ -152,12 +133,12 @@ impl Machine {
             ExprNode::Or(left, right) => self.begin_or(left, right),
             ExprNode::Comma(left, right) => self.begin_comma(left, right),
             ExprNode::Cond(test, first, second) => self.begin_cond(test, first, second),
-            ExprNode::This => Ok(Control::Done),
-            ExprNode::Array(_) => Ok(Control::Done),
-            ExprNode::Object(_) => Ok(Control::Done),
+            ExprNode::This => self.begin_this(),
+            ExprNode::Array(elements) => self.begin_array(elements),
+            ExprNode::Object(pairs) => self.begin_object(pairs),
             ExprNode::Func(_) => Ok(Control::Done),
-            ExprNode::Dot(_, _) => Ok(Control::Done),
-            ExprNode::Index(_, _) => Ok(Control::Done),
+            ExprNode::Dot(_, _) => self.begin_member(e),
+            ExprNode::Index(_, _) => self.begin_member(e),
             ExprNode::Call(callee, arguments) => self.begin_call(callee, arguments),
             ExprNode::New(_, _) => Ok(Control::Done),
             ExprNode::Late(_) => Ok(Control::Done),

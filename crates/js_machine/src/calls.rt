@@ -8,7 +8,7 @@ ghost use Rattle.js_code.specs.Cursors.{exprs_from};
 ghost use Rattle.js_machine.specs.Given.{LeadsTo};
 ghost use Rattle.js_machine.specs.Built.{is_dot};
 ghost use Rattle.js_machine.specs.HostCalls.{host_call_in};
-ghost use Rattle.js_machine.specs.Members.{base_on, dot_name, is_base, is_native, member_in};
+ghost use Rattle.js_machine.specs.Members.{base_on, is_native, property_in};
 ghost use Rattle.js_machine.specs.NotBuilt.{StopsRightly};
 ghost use Rattle.js_machine.specs.Rest.{Falls, Same, in_arguments, in_expr, in_value, measure};
 ghost use Rattle.js_machine.specs.References.{error_object};
@@ -18,67 +18,13 @@ ghost use Rattle.js_machine.specs.State.{object_value};
 
 use crate::frame::{Control, End, Frame, Unbuilt};
 use crate::machine::Machine;
+use crate::members::{dot_of, is_base};
 use crate::world::Host;
 use dl_text::Units;
-use js_code::{ExprCode, ExprCodes, ExprNode};
+use js_code::{ExprCode, ExprCodes};
 use js_values::{ObjectId, Value};
-use object_heap::{BuiltIn, Class, Prop};
+use object_heap::{BuiltIn, Class};
 use std::alloc::AllocError;
-
-/// What a property holds, for a call.
-#[derive(Clone, Copy)]
-pub enum Member {
-    Object(ObjectId),
-    /// What is no object.
-    Other,
-    /// A property of a primitive value, which the machine does not read yet.
-    Unbuilt,
-}
-
-/// The object and the name of a dot.
-pub(crate) fn dot_of(e: &ExprCode) -> Option<(&ExprCode, &Units)>
-    ensures { MatchOption result (dot_name (expr e.now) ≡ None)
-        (λ dot. expr e.now ≡ tree.Dot (expr dot.0.now) dot.1.now) }
-{
-    match e.node() {
-        ExprNode::Dot(object, name) => Some((object, name)),
-        ExprNode::Num(_) => None,
-        ExprNode::Str(_) => None,
-        ExprNode::Bool(_) => None,
-        ExprNode::Null => None,
-        ExprNode::This => None,
-        ExprNode::Name(_) => None,
-        ExprNode::Array(_) => None,
-        ExprNode::Object(_) => None,
-        ExprNode::Func(_) => None,
-        ExprNode::Index(_, _) => None,
-        ExprNode::Call(_, _) => None,
-        ExprNode::New(_, _) => None,
-        ExprNode::Postfix(_, _) => None,
-        ExprNode::Prefix(_, _, _) => None,
-        ExprNode::Binary(_, _, _, _) => None,
-        ExprNode::And(_, _) => None,
-        ExprNode::Or(_, _) => None,
-        ExprNode::Comma(_, _) => None,
-        ExprNode::Cond(_, _, _) => None,
-        ExprNode::Assign(_, _, _) => None,
-        ExprNode::Late(_) => None,
-    }
-}
-
-/// Whether a value has properties.
-fn is_base(v: &Value) -> bool
-    ensures { result ≡ is_base v.now }
-{
-    match v {
-        Value::Undefined => false,
-        Value::Null => false,
-        Value::Bool(_) => true,
-        Value::Num(_) => true,
-        Value::Str(_) => true,
-        Value::Object(_) => true,
-    }
-}
 
 impl Machine {
     /// The base of a call is begun, behind the step of its dot.
@@ -170,16 +116,14 @@ impl Machine {
         self.next_argument(i + 1, callee, arguments)
     }
 
-    /// What a property holds of the base that stands under so many arguments.
-    fn member(&self, count: u32, name: &Units) -> Member
-        ensures { result ≡ member_in self.now.heap (base_on count self.now.values) name.now }
+    /// What a property has of the base that stands under so many arguments.
+    fn callee(&self, count: u32, name: &Units) -> Result<Value, AllocError>
+        ensures { IfOk result (λ f.
+            f ≡ property_in self.now.heap (base_on count self.now.values) name.now) }
     {
         match self.values.under(count as usize) {
-            Some(Value::Object(o)) => match self.heap.get(*o, name) {
-                Some(Prop::Own(Value::Object(f))) => Member::Object(*f),
-                _ => Member::Other,
-            },
-            _ => Member::Unbuilt,
+            Some(base) => self.property(base, name),
+            None => Ok(Value::Undefined),
         }
     }
 
@@ -211,10 +155,9 @@ impl Machine {
             let _base = self.values.pop();
             return Ok(Control::Done);
         };
-        match self.member(count, name) {
-            Member::Object(o) => Ok(Control::Enter(count, o)),
-            Member::Other => self.throw_at_call(count),
-            Member::Unbuilt => Ok(Control::Unbuilt(Unbuilt::Call(count, callee))),
+        match self.callee(count, name)? {
+            Value::Object(o) => Ok(Control::Enter(count, o)),
+            _ => self.throw_at_call(count),
         }
     }
 

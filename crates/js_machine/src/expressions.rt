@@ -62,6 +62,18 @@ impl Machine {
         self.answer(Value::Null)
     }
 
+    /// `this` of a script is the global object (ES3 10.2.1).
+    #[inline]
+    #[tactic(auto, using(crate::proofs::ExpressionLaws::in_this))]
+    pub(crate) fn begin_this(&mut self) -> Result<Control, AllocError>
+        ensures same { IfOk result (λ next. Same (in_expr tree.This) self.old next self.new) }
+        ensures falls { IfOk result (λ next. Falls self.old next self.new) }
+        ensures rightly { IfOk result (λ next. StopsRightly next self.new) }
+    {
+        let global = self.heap.built_in(BuiltIn::Global);
+        self.answer(Value::Object(global))
+    }
+
     #[inline]
     #[tactic(auto, using(crate::proofs::ExpressionLaws::in_binary))]
     pub(crate) fn begin_binary(

@@ -61,6 +61,14 @@ impl Machine {
             Frame::StoreWith(_, _) => self.pass_one(Control::Done),
             Frame::Callee(_, _) => Ok(Control::Done),
             Frame::Argument(i, _, _) => self.pass_call(i, Control::Done),
+            Frame::Base(_) => Ok(Control::Done),
+            Frame::Key(_) => self.pass_one(Control::Done),
+            Frame::Put => self.pass_call(1, Control::Done),
+            Frame::PutWith(_) => self.pass_call(2, Control::Done),
+            Frame::Changed(_, _) => self.pass_call(1, Control::Done),
+            Frame::Element(_, _) => self.pass_one(Control::Done),
+            Frame::Pair(_, _) => self.pass_one(Control::Done),
+            Frame::In => self.pass_one(Control::Done),
         }
     }
 
@@ -92,6 +100,14 @@ impl Machine {
             Frame::StoreWith(_, _) => self.pass_one(Control::Break),
             Frame::Callee(_, _) => Ok(Control::Break),
             Frame::Argument(i, _, _) => self.pass_call(i, Control::Break),
+            Frame::Base(_) => Ok(Control::Break),
+            Frame::Key(_) => self.pass_one(Control::Break),
+            Frame::Put => self.pass_call(1, Control::Break),
+            Frame::PutWith(_) => self.pass_call(2, Control::Break),
+            Frame::Changed(_, _) => self.pass_call(1, Control::Break),
+            Frame::Element(_, _) => self.pass_one(Control::Break),
+            Frame::Pair(_, _) => self.pass_one(Control::Break),
+            Frame::In => self.pass_one(Control::Break),
         }
     }
 
@@ -123,6 +139,14 @@ impl Machine {
             Frame::StoreWith(_, _) => self.pass_one(Control::Continue),
             Frame::Callee(_, _) => Ok(Control::Continue),
             Frame::Argument(i, _, _) => self.pass_call(i, Control::Continue),
+            Frame::Base(_) => Ok(Control::Continue),
+            Frame::Key(_) => self.pass_one(Control::Continue),
+            Frame::Put => self.pass_call(1, Control::Continue),
+            Frame::PutWith(_) => self.pass_call(2, Control::Continue),
+            Frame::Changed(_, _) => self.pass_call(1, Control::Continue),
+            Frame::Element(_, _) => self.pass_one(Control::Continue),
+            Frame::Pair(_, _) => self.pass_one(Control::Continue),
+            Frame::In => self.pass_one(Control::Continue),
         }
     }
 
@@ -178,6 +202,14 @@ impl Machine {
             Frame::StoreWith(_, _) => self.throw_over(1),
             Frame::Callee(_, _) => self.throw_over(0),
             Frame::Argument(i, _, _) => self.throw_over_call(i),
+            Frame::Base(_) => self.throw_over(0),
+            Frame::Key(_) => self.throw_over(1),
+            Frame::Put => self.throw_over(2),
+            Frame::PutWith(_) => self.throw_over(3),
+            Frame::Changed(_, _) => self.throw_over(2),
+            Frame::Element(_, _) => self.throw_over(1),
+            Frame::Pair(_, _) => self.throw_over(1),
+            Frame::In => self.throw_over(1),
         }
     }
 }

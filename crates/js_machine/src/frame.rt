@@ -1,6 +1,6 @@
 //! What waits for outcomes, and what the machine does next.
 
-use js_code::{ExprCode, ExprCodes, StmtCode, StmtCodes, VarCodes};
+use js_code::{ElementCodes, ExprCode, ExprCodes, PairCodes, StmtCode, StmtCodes, VarCodes};
 use js_tree::{BinaryOp, PostfixOp, PrefixOp};
 use js_values::{ObjectId, Reason};
 use std::mem::size_of;
@@ -45,6 +45,23 @@ pub enum Frame {
     Callee(ExprCode, ExprCodes),
     /// For the argument of the call that has this number. It owns those before it and the base.
     Argument(u32, ExprCode, ExprCodes),
+    /// For the base of the member that this node works on.
+    Base(ExprCode),
+    /// For the key of that member. It owns the base.
+    Key(ExprCode),
+    /// For the value that is written to a member. It owns the name and under it the base.
+    Put,
+    /// For the right operand of an assignment to a member. It owns the left one above these.
+    PutWith(BinaryOp),
+    /// For the value of a member that changes by one, and whether the new one is given. It owns the
+    /// name and under it the base.
+    Changed(PostfixOp, bool),
+    /// For the element of an array literal at this index. It owns the array.
+    Element(u32, ElementCodes),
+    /// For the value of the pair of an object literal that has this number. It owns the object.
+    Pair(u32, PairCodes),
+    /// For the right operand of `in`. It owns the left one.
+    In,
 }
 
 // Calls nest by the million.
@@ -104,8 +121,6 @@ pub enum Unbuilt {
     Script(StmtCodes),
     /// `++` or `--` of this name, whose value is to be converted, and whether it gives the new one.
     Change(PostfixOp, bool, ExprCode),
-    /// The call of this dot of the value that stands under so many arguments.
-    Call(u32, ExprCode),
     /// The entry of this object, with so many arguments above its `this`.
     Enter(u32, ObjectId),
 }

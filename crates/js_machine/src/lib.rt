@@ -17,8 +17,10 @@ mod flow;
 mod frame;
 mod hosts;
 mod laws;
+mod literals;
 mod loops;
 mod machine;
+mod members;
 mod names;
 mod operators;
 mod run;
@@ -29,6 +31,7 @@ mod unary;
 mod values;
 mod variables;
 mod world;
+mod writes;
 
 pub use laws::{
     calls_are_entered, lists_are_applied, long_texts_stop, nodes_have_parts, pages_grow,

@@ -16,7 +16,7 @@ use crate::machine::Machine;
 use dl_text::{TryCopy, Units};
 use js_code::{ExprCode, ExprNode};
 use js_values::Value;
-use object_heap::{BuiltIn, Class, HeapError, Prop};
+use object_heap::{BuiltIn, Class, Prop};
 use std::alloc::AllocError;
 
 /// The name, where an expression is one.
@@ -94,7 +94,7 @@ impl Machine {
 
     /// Writes to a name, and tells whether no RangeError is due.
     #[inline]
-    #[tactic(auto, using(crate::proofs::NameLaws::write_laws))]
+    #[tactic(auto, using(crate::proofs::NameLaws::global_laws))]
     pub(crate) fn write_name(&mut self, name: &Units, v: Value) -> Result<bool, AllocError>
         ensures told { IfOk result (λ is_written.
             is_written ≡ is_length (put self.old.heap global_object name.now v)) }
@@ -102,11 +102,7 @@ impl Machine {
             ≡ record self.old { heap = written self.old.heap global_object name.now v }) }
     {
         let global = self.heap.built_in(BuiltIn::Global);
-        match self.heap.put(global, name, v) {
-            Ok(_done) => Ok(true),
-            Err(HeapError::BadLength) => Ok(false),
-            Err(HeapError::OutOfMemory) => Err(AllocError),
-        }
+        self.put(global, name, v)
     }
 
     /// A value is written to a name, and another given.

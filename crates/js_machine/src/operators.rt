@@ -63,7 +63,7 @@ pub(crate) fn number(v: &Value) -> Option<Result<Num, Reason>>
 }
 
 /// ToString (ES3 9.8), but of an object.
-fn text(alloc: Global, v: &Value) -> Result<Option<Units>, AllocError>
+pub(crate) fn text(alloc: Global, v: &Value) -> Result<Option<Units>, AllocError>
     ensures { IfOk result (λ text. text ≡ text_of v.now) }
 {
     match v {
@@ -133,6 +133,7 @@ fn on_numbers(op: BinaryOp, v: &Value, w: &Value) -> Operated
     }
 }
 
+/// A text with another behind it (ES3 11.6.1).
 fn as_text(alloc: Global, a: &Units, b: &Units) -> Result<Result<Value, Reason>, AllocError>
     ensures { IfOk result (λ r. r ≡ spec.text_result (a.now ++ b.now)) }
 {

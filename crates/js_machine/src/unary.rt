@@ -1,11 +1,11 @@
-//! Unary operators (ES3 11.4), but for `delete`.
+//! Unary operators (ES3 11.4) on values and on names.
 
 ghost use Rattle.std.specs.Prelude.{◌≡◌, ◌∷◌, ◌≤◌, ◌<◌, ◌+◌, ◌*◌};
 ghost use Rattle.std.specs.Prelude.{length, true, pos, neg_ℤ, ◌-ℤ◌, IfOk};
 ghost use Rattle.js_values.specs.declared.number.Num.{Num};
 ghost use Rattle.js_tree.specs.Plain.{expr};
 ghost use Rattle.js_tree.specs.Tree as tree;
-ghost use Rattle.js_machine.specs.Built.{is_built_prefix, is_name};
+ghost use Rattle.js_machine.specs.Built.{is_name, is_plain_prefix};
 ghost use Rattle.js_machine.specs.Globals.{is_callable};
 ghost use Rattle.js_machine.specs.Globals as spec;
 ghost use Rattle.js_machine.specs.NotBuilt.{StopsRightly};
@@ -20,7 +20,7 @@ use dl_text::{TryCopy, units_of};
 use js_code::ExprCode;
 use js_tree::{PostfixOp, PrefixOp};
 use js_values::{Num, Reason, Value, WholeNumber, neg, to_boolean, to_int32, type_of};
-use object_heap::Class;
+use object_heap::{BuiltIn, Class};
 use std::alloc::{AllocError, Global};
 
 /// Each bit of ToInt32 is changed (ES3 11.4.8).
@@ -56,7 +56,8 @@ fn unary(
             Some(Err(reason)) => Some(Err(reason)),
             Some(Ok(n)) => Some(Ok(Value::Num(of_number(op, n)))),
         }),
-        PrefixOp::Delete | PrefixOp::TypeOf | PrefixOp::Increment | PrefixOp::Decrement => {
+        PrefixOp::Delete => Ok(Some(Ok(Value::Bool(true)))),
+        PrefixOp::TypeOf | PrefixOp::Increment | PrefixOp::Decrement => {
             Ok(Some(Ok(v.copy(alloc)?)))
         }
     }
@@ -70,14 +71,14 @@ impl Machine {
         op: PrefixOp,
         operand: &ExprCode,
     ) -> Result<Control, AllocError>
-        requires { is_built_prefix op (expr operand.now) ≡ true }
+        requires { is_plain_prefix op (expr operand.now) ≡ true }
         ensures same { IfOk result (λ next.
             Same (in_expr (tree.Prefix op (expr operand.now))) self.old next self.new) }
         ensures falls { IfOk result (λ next. Falls self.old next self.new) }
         ensures rightly { IfOk result (λ next. StopsRightly next self.new) }
     {
         match op {
-            PrefixOp::Delete => Ok(Control::Done),
+            PrefixOp::Delete => self.begin_delete(operand),
             PrefixOp::TypeOf => self.begin_typeof(operand),
             PrefixOp::Increment => self.begin_change(PostfixOp::Increment, operand),
             PrefixOp::Decrement => self.begin_change(PostfixOp::Decrement, operand),
@@ -105,10 +106,35 @@ impl Machine {
         self.change(op, true, target)
     }
 
+    /// `delete` of a name, or of what is no reference (ES3 11.4.1).
+    #[inline]
+    #[tactic(auto, using(crate::proofs::UnaryLaws::delete_laws))]
+    fn begin_delete(&mut self, operand: &ExprCode) -> Result<Control, AllocError>
+        requires { is_plain_prefix PrefixOp.Delete (expr operand.now) ≡ true }
+        ensures same { IfOk result (λ next.
+            Same (in_expr (tree.Prefix PrefixOp.Delete (expr operand.now)))
+            self.old next self.new) }
+        ensures falls { IfOk result (λ next. Falls self.old next self.new) }
+        ensures rightly { IfOk result (λ next. StopsRightly next self.new) }
+    {
+        let Some(name) = name_of(operand) else {
+            return self.first(Frame::Unary(PrefixOp::Delete), operand);
+        };
+        if !self.clock.tick() {
+            return Ok(Control::End(End::OutOfSteps));
+        }
+        let global = self.heap.built_in(BuiltIn::Global);
+        if !self.heap.has(global, name) {
+            return self.answer(Value::Bool(true));
+        }
+        let deletes = self.heap.delete(global, name);
+        self.answer(Value::Bool(deletes))
+    }
+
     #[inline]
     #[tactic(auto, using(crate::proofs::UnaryLaws::typeof_laws))]
     fn begin_typeof(&mut self, operand: &ExprCode) -> Result<Control, AllocError>
-        requires { is_built_prefix PrefixOp.TypeOf (expr operand.now) ≡ true }
+        requires { is_plain_prefix PrefixOp.TypeOf (expr operand.now) ≡ true }
         ensures same { IfOk result (λ next.
             Same (in_expr (tree.Prefix PrefixOp.TypeOf (expr operand.now)))
             self.old next self.new) }
@@ -142,7 +168,7 @@ impl Machine {
 
     /// The type of a value is given.
     #[tactic(auto, using(crate::proofs::UnaryLaws::type_laws))]
-    fn answer_type(&mut self, v: &Value) -> Result<Control, AllocError>
+    pub(crate) fn answer_type(&mut self, v: &Value) -> Result<Control, AllocError>
         ensures same { IfOk result (λ next. Same (in_type v.now) self.old next self.new) }
         ensures falls { IfOk result (λ next. Falls self.old next self.new) }
         ensures rightly { IfOk result (λ next. StopsRightly next self.new) }

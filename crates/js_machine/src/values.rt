@@ -15,15 +15,18 @@ use std::alloc::AllocError;
 
 impl Machine {
     #[inline]
-    #[tactic(auto, using(crate::proofs::ValueLaws::v_left))]
+    #[tactic(auto, using(crate::proofs::ValueLaws::left_laws))]
     fn give_left(&mut self, op: BinaryOp, right: ExprCode) -> Result<Control, AllocError>
         ensures same { IfOk result (λ next.
             Same (in_value (Frame.Left op right)) self.old next self.new) }
         ensures falls { IfOk result (λ next. Falls self.old next self.new) }
         ensures rightly { IfOk result (λ next. StopsRightly next self.new) }
     {
-        self.frames.push(Frame::Right(op))?;
-        Ok(Control::Expr(right))
+        let frame = match op {
+            BinaryOp::In => Frame::In,
+            _ => Frame::Right(op),
+        };
+        self.wait(frame, Control::Expr(right))
     }
 
     #[inline]
@@ -143,6 +146,14 @@ impl Machine {
             Frame::ForVar(i, items, s) => self.give_for_var(i, items, s),
             Frame::Callee(callee, arguments) => self.give_callee(callee, arguments),
             Frame::Argument(i, callee, arguments) => self.give_argument(i, callee, arguments),
+            Frame::Base(e) => self.give_base(e),
+            Frame::Key(e) => self.give_key(e),
+            Frame::Put => self.give_put(),
+            Frame::PutWith(op) => self.give_put_with(op),
+            Frame::Changed(op, gives_new) => self.give_changed(op, gives_new),
+            Frame::Element(i, elements) => self.give_element(i, elements),
+            Frame::Pair(i, pairs) => self.give_pair(i, pairs),
+            Frame::In => self.give_in(),
         }
     }
 }

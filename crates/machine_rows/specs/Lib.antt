@@ -9,3 +9,10 @@ pub mod StatementScripts
 pub mod FunctionScripts
 pub mod PageScripts
 pub mod KindScripts
+pub mod Samples
+pub mod Operations
+pub mod Alone
+pub mod Nodes
+pub mod Operands
+pub mod Asking
+pub mod Members

@@ -1,0 +1,28 @@
+use Rattle.std.proofs.Common.{List, sym, ap, ◌∙◌}
+use Rattle.object_heap.specs.declared.built_in.BuiltIn.TheVariants as built
+use Rattle.js_machine.specs.declared.frame.Frame.TheVariants as frame
+use Rattle.js_machine.specs.declared.machine.Machine.{Machine}
+use Rattle.js_values.specs.declared.value.Value.{Value}
+use Rattle.js_machine.specs.Literals.{object_number}
+use Rattle.js_machine.specs.Rest.{in_value}
+use Rattle.js_machine.specs.Stacks.{below, top}
+use Rattle.js_machine.proofs.LiteralLaws.{element_bad}
+use Rattle.js_machine.proofs.ThrowLaws.{raised}
+use Rattle.js_machine.proofs.machine.Machine.give_element.Goals as goal
+
+pub returns-else-branch-clause-same : goal.returns-else-branch-clause-same
+returns-else-branch-clause-same c =
+    let m = c.args.self.now in
+    let popped = c.pop-array.new.self in
+    let now = record c.put.new.self { values = popped } in
+    let is = c.in_ok-put.ensures.after in
+    raised (in_value (frame.Element c.args.i c.args.elements)) m now c.throw_error.new.self
+    built.RangeErrorPrototype _ _ c.throw_error.result (ap {A = Machine} (λ m. record m { values = popped }) is)
+    (λ out. element_bad m.clock.1 m.frames m.values m.heap m.hosts m.beats m.clock.0 out c.args.i
+    c.newest_object-array.result.0 c.args.elements c.in_ok-name.name c.pop-v.result now.heap popped
+    (c.newest_object-array.ensures ∙ ap {A = List Value} (λ vs. object_number (top vs)) c.pop-v.ensures.rest)
+    c.in_ok-name.ensures c.pop-v.ensures.value
+    (sym c.in_ok-put.ensures.told ∙ c.if-branch.false) (ap {A = Machine} (λ m. m.heap) is)
+    (c.pop-array.ensures.rest ∙ (ap {A = Machine} (λ m. below m.values) is
+    ∙ ap below c.pop-v.ensures.rest)))
+    c.throw_error.ensures

@@ -1,7 +1,0 @@
-use Rattle.js_machine.proofs.NameLaws.{is_put}
-use Rattle.js_machine.proofs.machine.Machine.write_name.Goals as goal
-
-pub returns-in-Ok-clause-told : goal.returns-in-Ok-clause-told
-returns-in-Ok-clause-told c =
-    is_put c.args.self.now.heap c.built_in-global.result.0 c.args.name.now c.args.v c.in-Ok._done
-    c.built_in-global.ensures.number c.in-Ok.ensures.answer

@@ -1,0 +1,228 @@
+//! What of the language the machine runs so far, and where it stops since something is not built
+//! yet: these calls do nothing.
+
+ghost use Rattle.std.specs.Prelude.{◌≡◌, ◌∷◌, [], ◌++◌, ℕ, List, map, replicate, codes};
+ghost use Rattle.std.specs.Prelude.{Some, None, true, false};
+ghost use Rattle.js_tree.specs.declared.tree.BinaryOp.TheVariants as op;
+ghost use Rattle.js_tree.specs.declared.tree.Expr.{Expr};
+ghost use Rattle.js_tree.specs.declared.tree.PostfixOp.TheVariants as postfix;
+ghost use Rattle.js_tree.specs.declared.tree.PrefixOp.TheVariants as prefix;
+ghost use Rattle.js_tree.specs.declared.tree.Stmt.{Stmt};
+ghost use Rattle.js_tree.specs.declared.tree.VarItem.{VarItem};
+ghost use Rattle.js_tree.specs.Plain as view;
+ghost use Rattle.js_tree.specs.Tree.{MoreStmts, NoStmts};
+ghost use Rattle.js_tree.specs.Tree as tree;
+ghost use Rattle.js_values.specs.declared.value.ObjectId.{ObjectId};
+ghost use Rattle.js_values.specs.declared.value.Value.{Value};
+ghost use Rattle.object_heap.specs.Start.{heap_at_start};
+ghost use Rattle.js_machine.specs.declared.frame.Control.TheVariants as control;
+ghost use Rattle.js_machine.specs.declared.frame.End.{End};
+ghost use Rattle.js_machine.specs.declared.frame.Frame.TheVariants as frame;
+ghost use Rattle.js_machine.specs.declared.frame.Unbuilt.TheVariants as unbuilt;
+ghost use Rattle.js_machine.specs.declared.machine.Machine.{Machine};
+ghost use Rattle.js_machine.specs.Built.{is_begun, is_built_expression, is_built_prefix};
+ghost use Rattle.js_machine.specs.Built.{is_built_statement, is_dot, is_name, is_plain_jump};
+ghost use Rattle.js_machine.specs.Built.{is_plain_prefix, is_target};
+ghost use Rattle.js_machine.specs.Members.{is_member};
+ghost use Rattle.js_machine.specs.NotBuilt.{IsNotBuilt, LooksInside, StopsRightly};
+ghost use Rattle.js_machine.specs.NotBuilt.{goes_on_built, has_functions, holds_object};
+ghost use Rattle.js_machine.specs.NotBuilt.{names_object};
+ghost use Rattle.machine_rows.specs.Alone.{more_objects, with_x};
+ghost use Rattle.machine_rows.specs.Nodes as node;
+ghost use Rattle.machine_rows.specs.Operations.{kinds};
+ghost use Rattle.machine_rows.specs.Samples.{nothing, null, object, text, whole, yes};
+ghost use Rattle.machine_rows.specs.Writing.{a, to_string, x};
+
+/// Expressions: all but functions, `new`, and calls of what is no dot.
+pub fn built_expressions()
+    ensures each_kind { map is_built_expression node.expressions
+        ≡ replicate 8 true ++ false ∷ true ∷ true ∷ true ∷ false ∷ replicate 8 true ++ false
+        ∷ [] }
+    ensures numbers { map (λ n. is_built_expression (tree.Num n))
+        (0 ∷ 9007199254740991 ∷ 9007199254740992 ∷ []) ≡ true ∷ true ∷ false ∷ [] }
+    ensures truths { map (λ b. is_built_expression (tree.Truth b)) (true ∷ false ∷ [])
+        ≡ true ∷ true ∷ [] }
+    ensures calls { map is_built_expression node.calls ≡ true ∷ false ∷ false ∷ true ∷ [] }
+    ensures postfix { map (λ e. is_built_expression (tree.Postfix e postfix.Decrement)) node.targets
+        ≡ true ∷ true ∷ true ∷ false ∷ [] }
+    ensures assignments { map (λ e. is_built_expression (tree.Assign None e node.dot)) node.targets
+        ≡ true ∷ true ∷ true ∷ false ∷ [] }
+    ensures compound_assignments { map (λ e. is_built_expression (tree.Assign (Some op.Add) e
+        node.dot)) node.targets ≡ true ∷ true ∷ true ∷ false ∷ [] }
+    ensures prefixes { map (λ op. map (is_built_prefix op) node.targets) node.prefixes
+        ≡ replicate 3 (replicate 4 true) ++ (true ∷ true ∷ true ∷ false ∷ [])
+        ∷ (true ∷ true ∷ true ∷ false ∷ []) ∷ replicate 4 (replicate 4 true) }
+    ensures plain_prefixes { map (λ op. map (is_plain_prefix op) node.targets) node.prefixes
+        ≡ (true ∷ false ∷ false ∷ true ∷ []) ∷ replicate 4 true
+        ∷ (true ∷ false ∷ false ∷ true ∷ []) ∷ (true ∷ false ∷ false ∷ false ∷ [])
+        ∷ (true ∷ false ∷ false ∷ false ∷ []) ∷ replicate 4 (replicate 4 true) }
+    ensures targets { map is_target node.targets ≡ true ∷ true ∷ true ∷ false ∷ [] }
+    ensures prefixed { map (λ op. map (λ e. is_built_expression (tree.Prefix op e)) node.targets)
+        node.prefixes ≡ map (λ op. map (is_built_prefix op) node.targets) node.prefixes }
+    ensures names { map is_name node.expressions ≡ replicate 5 false ++ true ∷ replicate 16 false }
+    ensures members { map is_member node.expressions
+        ≡ replicate 9 false ++ true ∷ true ∷ replicate 11 false }
+    ensures dots { map is_dot node.expressions ≡ replicate 9 false ++ true ∷ replicate 12 false }
+{}
+
+/// Statements: those of 12.1 to 12.6.3, and jumps without labels. All but declarations and the
+/// notes of a use are begun.
+pub fn built_statements()
+    ensures each_kind { map is_built_statement node.statements
+        ≡ replicate 8 true ++ false ∷ true ∷ true ∷ replicate 7 false }
+    ensures far_jumps { map is_built_statement node.far_jumps ≡ false ∷ false ∷ [] }
+    ensures plain_jumps { map is_plain_jump (None ∷ Some a ∷ []) ≡ true ∷ false ∷ [] }
+    ensures begun { map is_begun node.statements ≡ replicate 16 true ++ false ∷ false ∷ [] }
+    ensures begins { map (λ s. goes_on_built (MoreStmts s NoStmts)) node.statements
+        ≡ replicate 16 true ++ false ∷ false ∷ [] }
+    ensures ends { goes_on_built NoStmts ≡ true }
+    ensures first_of_two { goes_on_built (MoreStmts tree.Empty (MoreStmts (tree.Used 3) NoStmts))
+        ≡ true }
+    ensures declares { map has_functions ([] ∷ (node.declared ∷ [])
+        ∷ (node.declared ∷ node.other_declared ∷ []) ∷ []) ≡ false ∷ true ∷ true ∷ [] }
+{}
+
+/// An operator looks into an object where the newest value, or with its left operand that below, is
+/// one, by its frame. The left operand is the one below.
+pub fn frames_that_look_inside()
+    ensures no_frame { LooksInside [] (object 70 ∷ object 70 ∷ []) → ⊥ }
+    ensures right { LooksInside (frame.Right op.Add ∷ []) (object 70 ∷ whole 1 ∷ []) }
+    ensures left { LooksInside (frame.Right op.Add ∷ []) (whole 1 ∷ object 70 ∷ []) }
+    ensures by_its_operator { LooksInside (frame.Right op.Equal ∷ []) (object 71 ∷ object 70 ∷ [])
+        → ⊥ }
+    ensures no_objects { LooksInside (frame.Right op.Add ∷ []) (whole 1 ∷ text a ∷ []) → ⊥ }
+    ensures not_deeper { LooksInside (frame.Right op.Add ∷ []) (whole 1 ∷ whole 1 ∷ object 70 ∷ [])
+        → ⊥ }
+    ensures left_operand_first { LooksInside (frame.Right op.Subtract ∷ [])
+        (object 70 ∷ text (codes "1.5") ∷ []) → ⊥ }
+    ensures tests { LooksInside (frame.Right op.In ∷ []) (whole 1 ∷ whole 1 ∷ []) }
+    ensures stores { (e : Expr) → LooksInside (frame.StoreWith op.Add e ∷ [])
+        (object 70 ∷ whole 1 ∷ []) }
+    ensures stores_left { (e : Expr) → LooksInside (frame.StoreWith op.Add e ∷ [])
+        (whole 1 ∷ object 70 ∷ []) }
+    ensures stores_plainly { (e : Expr) → LooksInside (frame.StoreWith op.Add e ∷ [])
+        (whole 1 ∷ text a ∷ []) → ⊥ }
+    ensures stores_in_order { (e : Expr) → LooksInside (frame.StoreWith op.Subtract e ∷ [])
+        (object 70 ∷ text (codes "1.5") ∷ []) → ⊥ }
+    ensures unary { LooksInside (frame.Unary prefix.Plus ∷ []) (object 70 ∷ []) }
+    ensures newest { LooksInside (frame.Unary prefix.Plus ∷ []) (whole 1 ∷ object 70 ∷ []) → ⊥ }
+    ensures unary_of_all { LooksInside (frame.Unary prefix.Not ∷ []) (object 70 ∷ []) → ⊥ }
+    ensures key { (e : Expr) → LooksInside (frame.Key e ∷ []) (object 70 ∷ whole 1 ∷ []) }
+    ensures plain_key { (e : Expr) → LooksInside (frame.Key e ∷ []) (text a ∷ object 70 ∷ []) → ⊥ }
+    ensures puts { LooksInside (frame.PutWith op.Add ∷ []) (object 70 ∷ whole 1 ∷ []) }
+    ensures puts_left { LooksInside (frame.PutWith op.Add ∷ []) (whole 1 ∷ object 70 ∷ []) }
+    ensures puts_plainly { LooksInside (frame.PutWith op.Add ∷ [])
+        (whole 1 ∷ text a ∷ object 70 ∷ []) → ⊥ }
+    ensures changes { LooksInside (frame.Changed postfix.Increment true ∷ []) (object 70 ∷ []) }
+    ensures changes_plainly { LooksInside (frame.Changed postfix.Increment true ∷ [])
+        (text a ∷ object 70 ∷ []) → ⊥ }
+    ensures in_object { LooksInside (frame.In ∷ []) (object 70 ∷ object 70 ∷ []) }
+    ensures in_plainly { LooksInside (frame.In ∷ []) (object 70 ∷ text a ∷ []) → ⊥ }
+    ensures behind { LooksInside (frame.Do ∷ frame.Unary prefix.Plus ∷ []) (object 70 ∷ []) → ⊥ }
+{}
+
+/// What waits for other values looks into none.
+pub fn frames_that_look_at_no_object()
+    ensures left { (e : Expr) (vs : List Value) → LooksInside (frame.Left op.Add e ∷ []) vs → ⊥ }
+    ensures and { (e : Expr) (vs : List Value) → LooksInside (frame.And e ∷ []) vs → ⊥ }
+    ensures or { (e : Expr) (vs : List Value) → LooksInside (frame.Or e ∷ []) vs → ⊥ }
+    ensures comma { (e : Expr) (vs : List Value) → LooksInside (frame.Comma e ∷ []) vs → ⊥ }
+    ensures cond { (e f : Expr) (vs : List Value) → LooksInside (frame.Cond e f ∷ []) vs → ⊥ }
+    ensures does { (vs : List Value) → LooksInside (frame.Do ∷ []) vs → ⊥ }
+    ensures next { (ss : List Stmt) (i : ℕ) (vs : List Value)
+        → LooksInside (frame.Next ss i ∷ []) vs → ⊥ }
+    ensures branches { (s : Stmt) (vs : List Value) → LooksInside (frame.If s ∷ []) vs → ⊥ }
+    ensures test { (s : Stmt) (vs : List Value) → LooksInside (frame.Test s ∷ []) vs → ⊥ }
+    ensures turn { (s : Stmt) (vs : List Value) → LooksInside (frame.Turn s ∷ []) vs → ⊥ }
+    ensures again { (s : Stmt) (vs : List Value) → LooksInside (frame.Again s ∷ []) vs → ⊥ }
+    ensures store { (e : Expr) (vs : List Value) → LooksInside (frame.Store e ∷ []) vs → ⊥ }
+    ensures type_of { (vs : List Value) → LooksInside (frame.Type ∷ []) vs → ⊥ }
+    ensures var { (i : ℕ) (items : List VarItem) (vs : List Value)
+        → LooksInside (frame.Var i items ∷ []) vs → ⊥ }
+    ensures for_var { (i : ℕ) (items : List VarItem) (s : Stmt) (vs : List Value)
+        → LooksInside (frame.ForVar i items s ∷ []) vs → ⊥ }
+    ensures callee { (e : Expr) (es : List Expr) (vs : List Value)
+        → LooksInside (frame.Callee e es ∷ []) vs → ⊥ }
+    ensures argument { (i : ℕ) (e : Expr) (es : List Expr) (vs : List Value)
+        → LooksInside (frame.Argument i e es ∷ []) vs → ⊥ }
+    ensures base { (e : Expr) (vs : List Value) → LooksInside (frame.Base e ∷ []) vs → ⊥ }
+    ensures put { (vs : List Value) → LooksInside (frame.Put ∷ []) vs → ⊥ }
+{}
+
+/// Names that are not built, as they hold an object that is to be converted.
+pub fn unbuilt_names()
+    ensures holds { map holds_object (None ∷ map Some kinds)
+        ≡ replicate 6 false ++ true ∷ [] }
+    ensures names { map (λ v. names_object (with_x v) (Some x)) kinds ≡ replicate 5 false ++ true
+        ∷ [] }
+    ensures unbound { names_object heap_at_start (Some x) ≡ false }
+    ensures inherited { names_object heap_at_start (Some to_string) ≡ true }
+    ensures no_name { names_object (with_x (object 2)) None ≡ false }
+{}
+
+/// Where the machine says that something is not built, it is not.
+pub fn unbuilt_places()
+    ensures expression { (e : Expr) (m : Machine) → view.expr e ≡ node.late
+        → IsNotBuilt (unbuilt.Expr e) m }
+    ensures built_expression { (e : Expr) (m : Machine) → view.expr e ≡ node.name
+        → IsNotBuilt (unbuilt.Expr e) m → ⊥ }
+    ensures statement { (s : Stmt) (m : Machine) → view.stmt s ≡ tree.Throw node.name
+        → IsNotBuilt (unbuilt.Stmt s) m }
+    ensures built_statement { (s : Stmt) (m : Machine) → view.stmt s ≡ tree.Empty
+        → IsNotBuilt (unbuilt.Stmt s) m → ⊥ }
+    ensures body { (s : Stmt) (m : Machine) → view.stmt s ≡ tree.Throw node.name
+        → IsNotBuilt (unbuilt.Body s) m }
+    ensures built_body { (s : Stmt) (m : Machine) → view.stmt s ≡ tree.Empty
+        → IsNotBuilt (unbuilt.Body s) m → ⊥ }
+    ensures give { (m : Machine) → IsNotBuilt unbuilt.Give (record m {
+      frames = frame.Unary prefix.Plus ∷ [];
+      values = object 70 ∷ [];
+    }) }
+    ensures built_give { (m : Machine) → IsNotBuilt unbuilt.Give (record m {
+      frames = frame.Unary prefix.Plus ∷ [];
+      values = whole 5 ∷ [];
+    }) → ⊥ }
+    ensures list { (s : Stmt) (m : Machine) → view.stmt s ≡ tree.Used 3
+        → IsNotBuilt (unbuilt.List (s ∷ []) 0) m }
+    ensures list_goes_on { (s t : Stmt) (m : Machine) → view.stmt t ≡ tree.Declare node.declared
+        → IsNotBuilt (unbuilt.List (s ∷ t ∷ []) 1) m }
+    ensures built_list { (s t : Stmt) (m : Machine) → view.stmt s ≡ tree.Empty
+        → IsNotBuilt (unbuilt.List (s ∷ t ∷ []) 0) m → ⊥ }
+    ensures script { (s : Stmt) (m : Machine) → view.stmt s ≡ tree.Declare node.declared
+        → IsNotBuilt (unbuilt.Script (s ∷ [])) m }
+    ensures built_script { (s : Stmt) (m : Machine) → view.stmt s ≡ tree.Empty
+        → IsNotBuilt (unbuilt.Script (s ∷ [])) m → ⊥ }
+    ensures end_of_list { (m : Machine) → IsNotBuilt (unbuilt.List [] 0) m → ⊥ }
+    ensures empty_script { (m : Machine) → IsNotBuilt (unbuilt.Script []) m → ⊥ }
+    ensures change { (e : Expr) (m : Machine) → view.expr e ≡ node.name
+        → IsNotBuilt (unbuilt.Change postfix.Increment true e)
+        (record m { heap = with_x (object 2) }) }
+    ensures built_change { (e : Expr) (m : Machine) → view.expr e ≡ node.name
+        → IsNotBuilt (unbuilt.Change postfix.Increment true e)
+        (record m { heap = with_x (whole 2) }) → ⊥ }
+    ensures enter { (m : Machine) → IsNotBuilt (unbuilt.Enter 0 (record { 0 = 13 }))
+        (record m { heap = more_objects }) }
+    ensures built_enter { (m : Machine) → IsNotBuilt (unbuilt.Enter 13 (record { 0 = 65 }))
+        (record m { heap = more_objects }) → ⊥ }
+    ensures stops { (m : Machine) → StopsRightly (control.Unbuilt (unbuilt.Enter 0 (record {
+      0 = 13;
+    }))) (record m { heap = more_objects }) }
+    ensures stops_wrongly { (m : Machine) → StopsRightly (control.Unbuilt (unbuilt.Enter 0 (record {
+      0 = 65;
+    }))) (record m { heap = more_objects }) → ⊥ }
+{}
+
+/// Where it goes on, or is over, it says nothing of that kind.
+pub fn other_controls()
+    ensures expression { (e : Expr) (m : Machine) → StopsRightly (control.Expr e) m }
+    ensures statement { (s : Stmt) (m : Machine) → StopsRightly (control.Stmt s) m }
+    ensures body { (s : Stmt) (m : Machine) → StopsRightly (control.Body s) m }
+    ensures call { (n : ℕ) (e : Expr) (m : Machine) → StopsRightly (control.Call n e) m }
+    ensures enter { (n : ℕ) (o : ObjectId) (m : Machine) → StopsRightly (control.Enter n o) m }
+    ensures give { (m : Machine) → StopsRightly control.Give m }
+    ensures done { (m : Machine) → StopsRightly control.Done m }
+    ensures jumps_out { (m : Machine) → StopsRightly control.Break m }
+    ensures jumps_on { (m : Machine) → StopsRightly control.Continue m }
+    ensures throws { (m : Machine) → StopsRightly control.Throw m }
+    ensures ends { (e : End) (m : Machine) → StopsRightly (control.End e) m }
+{}
