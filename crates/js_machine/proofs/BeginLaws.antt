@@ -7,11 +7,12 @@ use Rattle.js_tree.specs.Tree as tree
 use Rattle.js_machine.specs.Built.{is_built_prefix, is_name, is_plain_prefix, is_target}
 use Rattle.js_machine.specs.Members.{is_member, is_on_target}
 pub use Rattle.js_machine.proofs.LoopLaws.{in_while, in_do_while, in_for, in_for_first}
+pub use Rattle.js_machine.proofs.ForInLaws.{in_for_in_statement}
 pub use Rattle.js_machine.proofs.StatementLaws.{in_empty, in_if}
 pub use Rattle.js_machine.proofs.StatementLaws.{in_break_statement, in_continue_statement}
 pub use Rattle.js_machine.proofs.VariableLaws.{in_var, in_for_var}
 
-pub ruleset statements_begun = (in_while, in_do_while, in_for, in_for_first, in_empty, in_if, in_break_statement, in_continue_statement, in_var, in_for_var)
+pub ruleset statements_begun = (in_while, in_do_while, in_for, in_for_first, in_empty, in_if, in_break_statement, in_continue_statement, in_var, in_for_var, in_for_in_statement)
 
 -- ---- a target that is no member is a name
 

@@ -15,10 +15,13 @@ use Rattle.js_machine.specs.Rest.{Outside, rest, under, in_list, in_value, in_do
 abbrev takes_value : Frame → Bool
 takes_value (frame.Next ss i) = false
 takes_value (frame.Turn s) = false
+takes_value (frame.Visit left s) = false
 takes_value _ = true
 
+-- a frame that takes what leaves the body of a loop
 abbrev is_turn : Frame → Bool
 is_turn (frame.Turn s) = true
+is_turn (frame.Visit left s) = true
 is_turn _ = false
 
 module _ (n : ℕ) (fs : List Frame) (vs : List Value) (heap : Heap) (hosts : List HostCall) (beats steps : ℕ) (out : Outside) where
@@ -56,6 +59,11 @@ module _ (n : ℕ) (fs : List Frame) (vs : List Value) (heap : Heap) (hosts : Li
   done_passes (frame.Element i es) h = refl
   done_passes (frame.Pair i ps) h = refl
   done_passes frame.In h = refl
+  done_passes (frame.VisitsFrom s) h = refl
+  done_passes (frame.Visits s) h = refl
+  done_passes (frame.Visit left s) h = cc
+  done_passes (frame.VisitBase left s) h = refl
+  done_passes (frame.VisitKey left s) h = refl
 
   pub break_passes : (f : Frame) → is_turn f ≡ false → in_break f n fs vs heap hosts beats steps out ≡ rest control.Break n fs (under f vs) heap hosts beats steps out
   unfolding in_break rest
@@ -87,6 +95,11 @@ module _ (n : ℕ) (fs : List Frame) (vs : List Value) (heap : Heap) (hosts : Li
   break_passes (frame.Element i es) h = refl
   break_passes (frame.Pair i ps) h = refl
   break_passes frame.In h = refl
+  break_passes (frame.VisitsFrom s) h = refl
+  break_passes (frame.Visits s) h = refl
+  break_passes (frame.Visit left s) h = cc
+  break_passes (frame.VisitBase left s) h = refl
+  break_passes (frame.VisitKey left s) h = refl
 
   pub continue_passes : (f : Frame) → is_turn f ≡ false → in_continue f n fs vs heap hosts beats steps out ≡ rest control.Continue n fs (under f vs) heap hosts beats steps out
   unfolding in_continue rest
@@ -118,6 +131,11 @@ module _ (n : ℕ) (fs : List Frame) (vs : List Value) (heap : Heap) (hosts : Li
   continue_passes (frame.Element i es) h = refl
   continue_passes (frame.Pair i ps) h = refl
   continue_passes frame.In h = refl
+  continue_passes (frame.VisitsFrom s) h = refl
+  continue_passes (frame.Visits s) h = refl
+  continue_passes (frame.Visit left s) h = cc
+  continue_passes (frame.VisitBase left s) h = refl
+  continue_passes (frame.VisitKey left s) h = refl
 
   pub throw_passes : (f : Frame) → in_throw f n fs vs heap hosts beats steps out ≡ rest control.Throw n fs (top vs ∷ under f (below vs)) heap hosts beats steps out
   unfolding in_throw rest
@@ -149,6 +167,11 @@ module _ (n : ℕ) (fs : List Frame) (vs : List Value) (heap : Heap) (hosts : Li
   throw_passes (frame.Element i es) = refl
   throw_passes (frame.Pair i ps) = refl
   throw_passes frame.In = refl
+  throw_passes (frame.VisitsFrom s) = refl
+  throw_passes (frame.Visits s) = refl
+  throw_passes (frame.Visit left s) = refl
+  throw_passes (frame.VisitBase left s) = refl
+  throw_passes (frame.VisitKey left s) = refl
 
   -- ---- the newest frame, and the last one
 

@@ -22,6 +22,8 @@ pub mod HostLaws
 pub mod GivenLaws
 pub mod MemberLaws
 pub mod LiteralLaws
+pub mod VisitLaws
+pub mod ForInLaws
 pub mod CallLaws
 pub mod VariableLaws
 pub mod BeginLaws

@@ -88,6 +88,7 @@ is_built_statement (tree.DoWhile body test) = true
 is_built_statement (tree.While test body) = true
 is_built_statement (tree.Variables items) = true
 is_built_statement (tree.For first test update body) = true
+is_built_statement (tree.ForIn target object body) = true
 is_built_statement (tree.Continue label) = is_plain_jump label
 is_built_statement (tree.Break label) = is_plain_jump label
 is_built_statement _ = false

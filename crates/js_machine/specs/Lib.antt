@@ -28,6 +28,7 @@ pub mod Skipped
 pub mod HostCalls
 pub mod Members
 pub mod Literals
+pub mod Visiting
 pub mod Built
 pub mod NotBuilt
 pub mod Rest

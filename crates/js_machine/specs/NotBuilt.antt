@@ -53,6 +53,11 @@ LooksInside (frame.Changed op gives_new ∷ fs) vs = number_of (top vs) ≡ None
 LooksInside (frame.Element i es ∷ fs) vs = ⊥
 LooksInside (frame.Pair i ps ∷ fs) vs = ⊥
 LooksInside (frame.In ∷ fs) vs = text_of (top (below vs)) ≡ None
+LooksInside (frame.VisitsFrom s ∷ fs) vs = ⊥
+LooksInside (frame.Visits s ∷ fs) vs = ⊥
+LooksInside (frame.Visit left s ∷ fs) vs = ⊥
+LooksInside (frame.VisitBase left s ∷ fs) vs = ⊥
+LooksInside (frame.VisitKey left s ∷ fs) vs = text_of (top vs) ≡ None
 
 -- whether a list goes on with a statement that is begun, or ends
 abbrev pub goes_on_built : Stmts → Bool

@@ -2,6 +2,7 @@
 use Rattle.std.specs.Prelude.{◌≡◌, ◌≤◌, ℕ, ◌+◌, ◌*◌, Bool, if◌then◌else◌}
 use Rattle.std.specs.Prelude.{List, [], ◌∷◌, ◌++◌, length, map, Option, Some, None}
 use Rattle.js_values.specs.declared.number.Num.{Num}
+use Rattle.js_values.specs.declared.reason.Reason.TheVariants.{ReservedName}
 use Rattle.js_values.specs.declared.value.ObjectId.{ObjectId}
 use Rattle.js_values.specs.declared.value.Value.{Value}
 use Rattle.js_values.specs.declared.value.Value.TheVariants as value
@@ -10,7 +11,7 @@ use Rattle.js_values.specs.Values.{truth_of}
 use Rattle.exceptions_core.specs.declared.completion.Completion.TheVariants as completion
 use Rattle.exceptions_core.specs.declared.completion.Frame.TheVariants as frames
 use Rattle.exceptions_core.specs.declared.completion.Landing.{Landing}
-use Rattle.object_heap.specs.Names.{Name}
+use Rattle.object_heap.specs.Names.{Name, is_reserved}
 use Rattle.object_heap.specs.Objects.{Heap}
 use Rattle.js_tree.specs.declared.tree.BinaryOp.{BinaryOp}
 use Rattle.js_tree.specs.declared.tree.BinaryOp.TheVariants as op
@@ -23,7 +24,7 @@ use Rattle.js_tree.specs.Tree.{Expr, NoElements, Stmt}
 use Rattle.js_tree.specs.Plain.{expr, stmt}
 use Rattle.js_tree.specs.Plain as view
 use Rattle.js_code.specs.Cursors.{elements_from, exprs_from, pairs_from, stmts_from, var_items_from}
-use Rattle.js_code.specs.Projections.{IfTree, LoopTree, if_parts, loop_parts}
+use Rattle.js_code.specs.Projections.{IfTree, LoopTree, for_in_parts, if_parts, loop_parts}
 use Rattle.js_machine.specs.declared.hosts.HostCall.{HostCall}
 use Rattle.js_machine.specs.declared.machine.Machine.{Machine}
 use Rattle.js_machine.specs.declared.frame.Frame.{Frame}
@@ -35,7 +36,7 @@ use Rattle.js_machine.specs.declared.frame.End.TheVariants as end
 use Rattle.js_machine.specs.declared.frame.Over.{Over}
 use Rattle.js_machine.specs.declared.frame.Over.TheVariants as over
 use Rattle.js_machine.specs.declared.frame.Unbuilt.TheVariants as unbuilt
-use Rattle.js_machine.specs.Asks.{Program, Tail, Turn, CountTurn, Outcome, Gives, Enter, Ret}
+use Rattle.js_machine.specs.Asks.{Program, Tail, Turn, CountTurn, Outcome, Gives, Enter, Ret, Stop}
 use Rattle.js_machine.specs.Asks.{Ends, AnExpr, AStmt, ATurn, Loop}
 use Rattle.js_machine.specs.Frames.{gives, done, on_value, value_of, after_statement, at_frame}
 use Rattle.js_machine.specs.Operators.{operate}
@@ -60,6 +61,9 @@ use Rattle.js_machine.specs.Members.{changed_to, has_named, keyed, member_called
 use Rattle.js_machine.specs.Members.{putting_with, target_of, text_in, with_member}
 use Rattle.js_machine.specs.References.{get_on, put_on}
 use Rattle.js_machine.specs.Stacks.{top, below, without}
+use Rattle.js_machine.specs.Visiting.{before_visits, for_in_begun, named_turn, next_visit, on_key}
+use Rattle.js_machine.specs.Visiting.{visit_based, visit_begun, visiting, visits_from, visits_left}
+use Rattle.js_machine.specs.Visiting.{visits_on, without_visits}
 
 -- ---- parts of nodes
 
@@ -154,6 +158,14 @@ waits (frame.Element i es) vs =
     on_value (element_given (elements_from es (i + 1)) (object_number (top vs)) i)
 waits (frame.Pair i ps) vs = on_value (pair_given (pairs_from ps i) (object_number (top vs)))
 waits frame.In vs = on_value (λ w. operate op.In (top vs) w gives)
+waits (frame.VisitsFrom s) vs = on_value (visits_from (for_in_parts (stmt s)))
+waits (frame.Visits s) vs = on_value (visiting (for_in_parts (stmt s)))
+waits (frame.Visit left s) vs =
+    at_frame (frames.Loop []) (next_visit (for_in_parts (stmt s)) (visits_on left vs))
+waits (frame.VisitBase left s) vs = on_value
+    (visit_based (for_in_parts (stmt s)) (text_in (top vs)) (visits_on left (below vs)))
+waits (frame.VisitKey left s) vs = on_value (on_key (top vs) (text_in (top (below vs)))
+    (named_turn (for_in_parts (stmt s)) (visits_on left (below (below vs)))))
 
 -- the values below those that the frame owns
 abbrev pub under : Frame → List Value → List Value
@@ -185,6 +197,11 @@ under (frame.Changed op gives_new) vs = below (below vs)
 under (frame.Element i es) vs = below vs
 under (frame.Pair i ps) vs = below vs
 under frame.In vs = below vs
+under (frame.VisitsFrom s) vs = vs
+under (frame.Visits s) vs = vs
+under (frame.Visit left s) vs = without_visits left vs
+under (frame.VisitBase left s) vs = without_visits left (below vs)
+under (frame.VisitKey left s) vs = without_visits left (below (below vs))
 
 abbrev pub stack : List Frame → List Value → Stack
 stack [] vs = []
@@ -356,6 +373,42 @@ in_array_end count n fs vs =
 unfoldable pub in_pairs : ℕ → List Pair → Left
 in_pairs i ps n fs vs =
     running (pairs_left (pairs_from ps i) (object_number (top vs))) n fs (below vs)
+
+-- a `for-in`, its object, and so many visits of it
+unfoldable pub in_for_in : declared_stmt.Stmt → Left
+in_for_in s = running (for_in_begun (for_in_parts (stmt s)))
+
+unfoldable pub in_object : declared_stmt.Stmt → Left
+in_object s = running (before_visits (for_in_parts (stmt s)))
+
+unfoldable pub in_visits : ℕ → declared_stmt.Stmt → Left
+in_visits count s n fs vs = running
+    (visits_left (for_in_parts (stmt s)) (visits_on count vs)) n fs (without_visits count vs)
+
+-- a turn, whose name stands above the visits that are left
+unfoldable pub in_visit : ℕ → declared_stmt.Stmt → Left
+in_visit left s n fs vs = running
+    (visit_begun (for_in_parts (stmt s)) (text_in (top vs)) (visits_on left (below vs)))
+    n fs (without_visits left (below vs))
+
+-- behind the text of the key of its target, above which its base stood
+unfoldable pub in_visit_key : ℕ → declared_stmt.Stmt → Value → Name → Left
+in_visit_key left s base x n fs vs = running
+    (if is_reserved x then Stop ReservedName else put_on base x (value.Str (text_in (top vs)))
+    (named_turn (for_in_parts (stmt s)) (visits_on left (below vs))))
+    n fs (without_visits left (below vs))
+
+-- that name is written to a property of a base
+unfoldable pub in_visit_put : ℕ → declared_stmt.Stmt → Value → Name → Left
+in_visit_put left s base x n fs vs = running
+    (put_on base x (value.Str (text_in (top vs)))
+    (named_turn (for_in_parts (stmt s)) (visits_on left (below vs))))
+    n fs (without_visits left (below vs))
+
+-- and is written
+unfoldable pub in_named : ℕ → declared_stmt.Stmt → Left
+in_named left s n fs vs = running
+    (named_turn (for_in_parts (stmt s)) (visits_on left vs)) n fs (without_visits left vs)
 
 -- the items of a `var` from one on
 unfoldable pub in_variables : List VarItem → ℕ → Left

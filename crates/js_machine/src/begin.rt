@@ -21,7 +21,7 @@ use std::alloc::AllocError;
 const NUMBERS: u64 = 1 << 53;
 
 /// Whether an expression is a target: a name, a dot or an index.
-fn is_target(e: &ExprCode) -> bool
+pub(crate) fn is_target(e: &ExprCode) -> bool
     ensures { result ≡ is_target (expr e.now) }
 {
     is_member(e) || name_of(e).is_some()
@@ -95,7 +95,7 @@ pub(crate) fn is_built_statement(s: &StmtCode) -> bool
         StmtNode::For(_, _, _, _) => true,
         StmtNode::Continue(label) => is_plain_jump(label),
         StmtNode::Break(label) => is_plain_jump(label),
-        StmtNode::ForIn(_, _, _) => false,
+        StmtNode::ForIn(_, _, _) => true,
         StmtNode::Return(_) => false,
         StmtNode::Switch(_, _) => false,
         StmtNode::Label(_, _) => false,
@@ -196,7 +196,7 @@ impl Machine {
             StmtNode::Break(None) => Ok(Control::Break),
             StmtNode::Continue(Some(_)) => Ok(Control::Done),
             StmtNode::Break(Some(_)) => Ok(Control::Done),
-            StmtNode::ForIn(_, _, _) => Ok(Control::Done),
+            StmtNode::ForIn(_, _, _) => self.begin_for_in(s),
             StmtNode::Return(_) => Ok(Control::Done),
             StmtNode::Switch(_, _) => Ok(Control::Done),
             StmtNode::Label(_, _) => Ok(Control::Done),

@@ -34,7 +34,7 @@ impl Machine {
     }
 
     /// A statement ended.
-    #[tactic(auto, using(crate::proofs::FlowLaws::ended_laws, crate::proofs::LoopLaws::d_turn))]
+    #[tactic(auto, using(crate::proofs::FlowLaws::ended_laws, crate::proofs::LoopLaws::d_turn, crate::proofs::ForInLaws::d_visit))]
     pub(crate) fn end_statement(&mut self, frame: Frame) -> Result<Control, AllocError>
         ensures same { IfOk result (λ next. Same (in_done frame) self.old next self.new) }
         ensures falls { IfOk result (λ next. Falls self.old next self.new) }
@@ -69,11 +69,16 @@ impl Machine {
             Frame::Element(_, _) => self.pass_one(Control::Done),
             Frame::Pair(_, _) => self.pass_one(Control::Done),
             Frame::In => self.pass_one(Control::Done),
+            Frame::VisitsFrom(_) => Ok(Control::Done),
+            Frame::Visits(_) => Ok(Control::Done),
+            Frame::Visit(left, s) => self.next_visit(left, s),
+            Frame::VisitBase(left, _) => self.pass_visits(1, left, Control::Done),
+            Frame::VisitKey(left, _) => self.pass_visits(2, left, Control::Done),
         }
     }
 
     /// A `break` leaves a statement.
-    #[tactic(auto, using(crate::proofs::FlowLaws::break_passes, crate::proofs::LoopLaws::b_turn))]
+    #[tactic(auto, using(crate::proofs::FlowLaws::break_passes, crate::proofs::LoopLaws::b_turn, crate::proofs::ForInLaws::b_visit))]
     pub(crate) fn leave(&mut self, frame: Frame) -> Result<Control, AllocError>
         ensures same { IfOk result (λ next. Same (in_break frame) self.old next self.new) }
         ensures falls { IfOk result (λ next. Falls self.old next self.new) }
@@ -108,11 +113,16 @@ impl Machine {
             Frame::Element(_, _) => self.pass_one(Control::Break),
             Frame::Pair(_, _) => self.pass_one(Control::Break),
             Frame::In => self.pass_one(Control::Break),
+            Frame::VisitsFrom(_) => Ok(Control::Break),
+            Frame::Visits(_) => Ok(Control::Break),
+            Frame::Visit(left, _) => self.pass_visits(0, left, Control::Done),
+            Frame::VisitBase(left, _) => self.pass_visits(1, left, Control::Break),
+            Frame::VisitKey(left, _) => self.pass_visits(2, left, Control::Break),
         }
     }
 
     /// A `continue` leaves a statement.
-    #[tactic(auto, using(crate::proofs::FlowLaws::continue_passes, crate::proofs::LoopLaws::c_turn))]
+    #[tactic(auto, using(crate::proofs::FlowLaws::continue_passes, crate::proofs::LoopLaws::c_turn, crate::proofs::ForInLaws::c_visit))]
     pub(crate) fn leave_turn(&mut self, frame: Frame) -> Result<Control, AllocError>
         ensures same { IfOk result (λ next. Same (in_continue frame) self.old next self.new) }
         ensures falls { IfOk result (λ next. Falls self.old next self.new) }
@@ -147,6 +157,11 @@ impl Machine {
             Frame::Element(_, _) => self.pass_one(Control::Continue),
             Frame::Pair(_, _) => self.pass_one(Control::Continue),
             Frame::In => self.pass_one(Control::Continue),
+            Frame::VisitsFrom(_) => Ok(Control::Continue),
+            Frame::Visits(_) => Ok(Control::Continue),
+            Frame::Visit(left, s) => self.next_visit(left, s),
+            Frame::VisitBase(left, _) => self.pass_visits(1, left, Control::Continue),
+            Frame::VisitKey(left, _) => self.pass_visits(2, left, Control::Continue),
         }
     }
 
@@ -210,6 +225,11 @@ impl Machine {
             Frame::Element(_, _) => self.throw_over(1),
             Frame::Pair(_, _) => self.throw_over(1),
             Frame::In => self.throw_over(1),
+            Frame::VisitsFrom(_) => self.throw_over(0),
+            Frame::Visits(_) => self.throw_over(0),
+            Frame::Visit(left, _) => self.throw_over_visits(0, left),
+            Frame::VisitBase(left, _) => self.throw_over_visits(1, left),
+            Frame::VisitKey(left, _) => self.throw_over_visits(2, left),
         }
     }
 }

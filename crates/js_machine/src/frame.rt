@@ -62,6 +62,16 @@ pub enum Frame {
     Pair(u32, PairCodes),
     /// For the right operand of `in`. It owns the left one.
     In,
+    /// For the initialiser in the header of this `for-in`.
+    VisitsFrom(StmtCode),
+    /// For the object whose names this `for-in` visits.
+    Visits(StmtCode),
+    /// For the end of a turn of this `for-in`. It owns so many visits.
+    Visit(u32, StmtCode),
+    /// For the base of the target of a turn. It owns the name of the turn above so many visits.
+    VisitBase(u32, StmtCode),
+    /// For the key of that target. It owns the base above these.
+    VisitKey(u32, StmtCode),
 }
 
 // Calls nest by the million.

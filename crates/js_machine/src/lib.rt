@@ -14,6 +14,7 @@ mod calls;
 mod clock;
 mod expressions;
 mod flow;
+mod for_in;
 mod frame;
 mod hosts;
 mod laws;
@@ -30,6 +31,7 @@ mod task;
 mod unary;
 mod values;
 mod variables;
+mod visits;
 mod world;
 mod writes;
 

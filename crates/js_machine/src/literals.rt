@@ -8,18 +8,17 @@ ghost use Rattle.object_heap.specs.Changes.{new_object};
 ghost use Rattle.object_heap.specs.Names.{decimal};
 ghost use Rattle.js_tree.specs.Tree as tree;
 ghost use Rattle.js_code.specs.Cursors.{elements_from, pairs_from};
-ghost use Rattle.js_machine.specs.Literals.{object_number, Skips, begins_with_hole};
+ghost use Rattle.js_machine.specs.Literals.{Skips, begins_with_hole};
 ghost use Rattle.js_machine.specs.NotBuilt.{StopsRightly};
 ghost use Rattle.js_machine.specs.Rest.{Falls, Same, in_array_end, in_elements, in_expr, in_pairs};
 ghost use Rattle.js_machine.specs.Rest.{in_value, rest};
-ghost use Rattle.js_machine.specs.Stacks.{top};
 ghost use Rattle.js_machine.specs.State.{object_value};
 
 use crate::frame::{Control, Frame};
 use crate::machine::Machine;
 use dl_text::{Units, units_of};
 use js_code::{ElementCodes, PairCodes};
-use js_values::{Num, ObjectId, Value, text_of_num};
+use js_values::{Num, Value, text_of_num};
 use object_heap::{BuiltIn, Class};
 use std::alloc::{AllocError, Global};
 
@@ -49,16 +48,6 @@ fn behind_holes(elements: &ElementCodes, from: u32) -> Result<u32, AllocError>
 }
 
 impl Machine {
-    /// The object that is the newest value.
-    fn newest_object(&self) -> ObjectId
-        ensures { result.0 ≡ object_number (top self.now.values) }
-    {
-        match self.values.newest() {
-            Some(Value::Object(o)) => *o,
-            _ => ObjectId(0),
-        }
-    }
-
     /// A new object of a class with this prototype is the newest value.
     fn push_new(&mut self, class: Class, prototype: BuiltIn) -> Result<(), AllocError>
         ensures { IfOk result (λ _. self.new ≡ record self.old {

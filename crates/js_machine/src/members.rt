@@ -83,7 +83,7 @@ pub(crate) fn dot_of(e: &ExprCode) -> Option<(&ExprCode, &Units)>
 }
 
 /// The object and the key of an index.
-fn index_of(e: &ExprCode) -> Option<(&ExprCode, &ExprCode)>
+pub(crate) fn index_of(e: &ExprCode) -> Option<(&ExprCode, &ExprCode)>
     ensures { MatchOption result (spec.is_index (expr e.now) ≡ false)
         (λ index. expr e.now ≡ tree.Index (expr index.0.now) (expr index.1.now)) }
 {
@@ -186,7 +186,7 @@ pub(crate) fn has_member(e: &ExprCode) -> bool
 }
 
 /// The object of a member.
-fn object_of(e: &ExprCode) -> &ExprCode
+pub(crate) fn object_of(e: &ExprCode) -> &ExprCode
     ensures { expr result.now ≡ spec.object_of (expr e.now) }
 {
     match e.node() {

@@ -110,7 +110,7 @@ impl Machine {
     }
 
     /// A frame takes the newest value.
-    #[tactic(auto, using(crate::proofs::LoopLaws::loop_values, crate::proofs::ValueLaws::value_laws))]
+    #[tactic(auto, using(crate::proofs::LoopLaws::loop_values, crate::proofs::ValueLaws::value_laws, crate::proofs::ForInLaws::v_visit))]
     pub(crate) fn give(&mut self, frame: Frame) -> Result<Control, AllocError>
         ensures same { IfOk result (λ next. Same (in_value frame) self.old next self.new) }
         ensures falls { IfOk result (λ next. Falls self.old next self.new) }
@@ -154,6 +154,14 @@ impl Machine {
             Frame::Element(i, elements) => self.give_element(i, elements),
             Frame::Pair(i, pairs) => self.give_pair(i, pairs),
             Frame::In => self.give_in(),
+            Frame::VisitsFrom(s) => self.give_visits_from(s),
+            Frame::Visits(s) => self.give_visits(s),
+            Frame::Visit(left, s) => {
+                let _v = self.values.pop();
+                self.next_visit(left, s)
+            }
+            Frame::VisitBase(left, s) => self.give_visit_base(left, s),
+            Frame::VisitKey(left, s) => self.give_visit_key(left, s),
         }
     }
 }

@@ -16,26 +16,13 @@ use crate::assignments::{changed, number_value};
 use crate::frame::{Control, End, Frame, Unbuilt};
 use crate::machine::Machine;
 use crate::operators::{number, operate};
+use crate::visits::name_in;
 use dl_text::{TryCopy, Units};
 use js_code::ExprCode;
 use js_tree::{BinaryOp, PostfixOp};
 use js_values::{Num, ObjectId, Value};
 use object_heap::{BuiltIn, HeapError};
-use std::alloc::{AllocError, Global};
-
-/// A name that stands on the stack.
-fn name_in(alloc: Global, v: &Value) -> Result<Units, AllocError>
-    ensures { IfOk result (λ name. name ≡ spec.text_in v.now) }
-{
-    match v {
-        Value::Str(text) => text.copy(alloc),
-        Value::Undefined => Ok(Units::new(alloc)),
-        Value::Null => Ok(Units::new(alloc)),
-        Value::Bool(_) => Ok(Units::new(alloc)),
-        Value::Num(_) => Ok(Units::new(alloc)),
-        Value::Object(_) => Ok(Units::new(alloc)),
-    }
-}
+use std::alloc::AllocError;
 
 impl Machine {
     /// [[Put]], and whether no RangeError is due.
@@ -54,7 +41,12 @@ impl Machine {
     }
 
     /// [[Put]] to a base. To a property of a primitive value a write has no effect.
-    fn put_on(&mut self, base: &Value, name: &Units, v: Value) -> Result<bool, AllocError>
+    pub(crate) fn put_on(
+        &mut self,
+        base: &Value,
+        name: &Units,
+        v: Value,
+    ) -> Result<bool, AllocError>
         ensures told { IfOk result (λ is_written.
             is_written ≡ spec.is_put self.old.heap base.now name.now v) }
         ensures after { IfOk result (λ is_written. self.new
@@ -140,7 +132,7 @@ impl Machine {
         ensures rightly { IfOk result (λ next. StopsRightly next self.new) }
     {
         let v = self.values.pop();
-        let name = name_in(self.alloc, &self.values.pop())?;
+        let name = name_in(self.alloc, self.values.pop());
         let base = self.values.pop();
         let given = v.copy(self.alloc)?;
         self.put_member(&base, &name, v, given)
@@ -158,7 +150,7 @@ impl Machine {
         let left = self.values.pop();
         match operate(self.alloc, op, &left, &right)? {
             Some(Ok(v)) => {
-                let name = name_in(self.alloc, &self.values.pop())?;
+                let name = name_in(self.alloc, self.values.pop());
                 let base = self.values.pop();
                 let given = v.copy(self.alloc)?;
                 self.put_member(&base, &name, v, given)
@@ -204,7 +196,7 @@ impl Machine {
         ensures rightly { IfOk result (λ next. StopsRightly next self.new) }
     {
         let old = self.values.pop();
-        let name = name_in(self.alloc, &self.values.pop())?;
+        let name = name_in(self.alloc, self.values.pop());
         let base = self.values.pop();
         self.change_number(op, gives_new, base, name, old)
     }

@@ -65,11 +65,11 @@ pub fn built_expressions()
     ensures dots { map is_dot node.expressions ≡ replicate 9 false ++ true ∷ replicate 12 false }
 {}
 
-/// Statements: those of 12.1 to 12.6.3, and jumps without labels. All but declarations and the
+/// Statements: those of 12.1 to 12.6, and jumps without labels. All but declarations and the
 /// notes of a use are begun.
 pub fn built_statements()
     ensures each_kind { map is_built_statement node.statements
-        ≡ replicate 8 true ++ false ∷ true ∷ true ∷ replicate 7 false }
+        ≡ replicate 11 true ++ replicate 7 false }
     ensures far_jumps { map is_built_statement node.far_jumps ≡ false ∷ false ∷ [] }
     ensures plain_jumps { map is_plain_jump (None ∷ Some a ∷ []) ≡ true ∷ false ∷ [] }
     ensures begun { map is_begun node.statements ≡ replicate 16 true ++ false ∷ false ∷ [] }
@@ -109,6 +109,10 @@ pub fn frames_that_look_inside()
     ensures unary_of_all { LooksInside (frame.Unary prefix.Not ∷ []) (object 70 ∷ []) → ⊥ }
     ensures key { (e : Expr) → LooksInside (frame.Key e ∷ []) (object 70 ∷ whole 1 ∷ []) }
     ensures plain_key { (e : Expr) → LooksInside (frame.Key e ∷ []) (text a ∷ object 70 ∷ []) → ⊥ }
+    ensures visit_key { (s : Stmt) → LooksInside (frame.VisitKey 0 s ∷ [])
+        (object 70 ∷ whole 1 ∷ []) }
+    ensures plain_visit_key { (s : Stmt) → LooksInside (frame.VisitKey 0 s ∷ [])
+        (text a ∷ object 70 ∷ []) → ⊥ }
     ensures puts { LooksInside (frame.PutWith op.Add ∷ []) (object 70 ∷ whole 1 ∷ []) }
     ensures puts_left { LooksInside (frame.PutWith op.Add ∷ []) (whole 1 ∷ object 70 ∷ []) }
     ensures puts_plainly { LooksInside (frame.PutWith op.Add ∷ [])
@@ -147,6 +151,13 @@ pub fn frames_that_look_at_no_object()
         → LooksInside (frame.Argument i e es ∷ []) vs → ⊥ }
     ensures base { (e : Expr) (vs : List Value) → LooksInside (frame.Base e ∷ []) vs → ⊥ }
     ensures put { (vs : List Value) → LooksInside (frame.Put ∷ []) vs → ⊥ }
+    ensures visits_from { (s : Stmt) (vs : List Value) → LooksInside (frame.VisitsFrom s ∷ []) vs
+        → ⊥ }
+    ensures visits { (s : Stmt) (vs : List Value) → LooksInside (frame.Visits s ∷ []) vs → ⊥ }
+    ensures visit { (i : ℕ) (s : Stmt) (vs : List Value) → LooksInside (frame.Visit i s ∷ []) vs
+        → ⊥ }
+    ensures visit_base { (i : ℕ) (s : Stmt) (vs : List Value)
+        → LooksInside (frame.VisitBase i s ∷ []) vs → ⊥ }
 {}
 
 /// Names that are not built, as they hold an object that is to be converted.
