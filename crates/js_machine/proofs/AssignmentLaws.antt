@@ -24,11 +24,12 @@ use Rattle.js_machine.specs.declared.frame.Unbuilt.TheVariants as unbuilt
 use Rattle.js_machine.specs.declared.hosts.HostCall.{HostCall}
 use Rattle.js_machine.specs.Asks.{Program, AnExpr}
 use Rattle.js_machine.specs.Built.{is_name}
-use Rattle.js_machine.specs.Conversions.{or_stop, primitive_number, to_number}
+use Rattle.js_machine.specs.Conversions.{HintNumber, or_stop, primitive_number, to_number}
+use Rattle.js_machine.specs.Converted.{enters_operated, enters_value}
 use Rattle.js_machine.specs.Frames.{gives, on_value, value_of}
 use Rattle.js_machine.specs.Globals.{change_of, changed_from, changing, name_in, stored, value_of_global}
-use Rattle.js_machine.specs.NotBuilt.{names_object}
-use Rattle.js_machine.specs.Operated.{is_object, operated}
+use Rattle.js_machine.specs.NotBuilt.{holds_entered, names_entered}
+use Rattle.js_machine.specs.Operated.{operated}
 use Rattle.js_machine.specs.Operators.{operate}
 use Rattle.js_machine.specs.Page.{script_env}
 use Rattle.js_machine.specs.Programs.{program}
@@ -38,6 +39,7 @@ use Rattle.js_machine.specs.Run.{due, pop, run}
 use Rattle.js_machine.specs.Stacks.{top, below}
 use Rattle.js_machine.specs.State.{object_value}
 use Rattle.js_machine.specs.Unary.{one}
+use Rattle.js_machine.proofs.ConversionLaws.{number_throws, operator_throws}
 use Rattle.js_machine.proofs.NameLaws.{read_bound, read_unbound}
 use Rattle.js_machine.proofs.Operating.{operator_gives, operator_stops}
 use Rattle.js_machine.proofs.StepLaws.{none, step}
@@ -84,19 +86,11 @@ number_read (value.Num m) r k e = ap (λ n. primitive_number n k) e
 number_read (value.Str text) r k e = ap (λ n. primitive_number n k) e
 number_read (value.Object o) r k e = cc
 
-no_number : (v : Value) → number_of v ≡ None → is_object v ≡ true
-no_number value.Undefined e = cc
-no_number value.Null e = cc
-no_number (value.Bool b) e = cc
-no_number (value.Num m) e = cc
-no_number (value.Str text) e = cc
-no_number (value.Object o) e = refl
-
-pub holds_one : (heap : Heap) (t : tree.Expr) (name : Name) (v : Value) → t ≡ tree.Ident name → value_of_global heap name ≡ Some v → number_of v ≡ None → names_object heap (name_in t) ≡ true
-holds_one heap t name v e f g =
-    ap (λ t. names_object heap (name_in t)) e
-    ∙ ap (λ found. Rattle.js_machine.specs.NotBuilt.holds_object found) f
-    ∙ no_number v g
+pub holds_one : (heap : Heap) (hosts : List HostCall) (t : tree.Expr) (name : Name) (v : Value) → t ≡ tree.Ident name → value_of_global heap name ≡ Some v → enters_value heap hosts HintNumber v ≡ true → names_entered heap hosts (name_in t) ≡ true
+holds_one heap hosts t name v e f g =
+    ap (λ t. names_entered heap hosts (name_in t)) e
+    ∙ ap (holds_entered heap hosts) f
+    ∙ g
 
 module _ (n : ℕ) (fs : List Frame) (vs : List Value) (heap : Heap) (hosts : List HostCall) (beats steps : ℕ) (out : Outside) where
   -- ---- 11.13.1
@@ -142,6 +136,11 @@ module _ (n : ℕ) (fs : List Frame) (vs : List Value) (heap : Heap) (hosts : Li
       ap (λ w. run out.world n (operate op (top (below vs)) w (λ r. stored (name_in (expr t)) r r)) (stack fs (below (below vs))) (state_of heap hosts beats steps out)) (sym e)
       ∙ (ap (λ v. run out.world n (operate op v (top ws) (λ r. stored (name_in (expr t)) r r)) (stack fs (below (below vs))) (state_of heap hosts beats steps out)) (sym f)
       ∙ ap (λ us. run out.world n (operate op (top (below ws)) (top ws) (λ r. stored (name_in (expr t)) r r)) (stack fs us) (state_of heap hosts beats steps out)) (sym g))
+
+  pub v_store_throws : (op : BinaryOp) (t : Expr) → operated op (top (below vs)) (top vs) ≡ None → enters_operated heap hosts op (top (below vs)) (top vs) ≡ false
+      → in_value (frame.StoreWith op t) n fs vs heap hosts beats steps out ≡ rest control.Throw n fs (object_value (length heap) ∷ below (below vs)) (heap ++ error_object built.TypeErrorPrototype ∷ []) hosts beats steps out
+  unfolding in_value rest
+  v_store_throws op t h e = operator_throws n fs (below (below vs)) heap hosts beats steps out op (top (below vs)) (top vs) (λ r. stored (name_in (expr t)) r r) h e
 
   -- ---- the step of a target
 
@@ -211,6 +210,14 @@ module _ (n : ℕ) (fs : List Frame) (vs : List Value) (heap : Heap) (hosts : Li
   unfolding in_change rest
   change_stops op gives_new t name old reason e f g = reads op gives_new t name old (Err reason) e f g
 
+  pub change_throws : (op : PostfixOp) (gives_new : Bool) (t : tree.Expr) (name : Name) (old : Value) → t ≡ tree.Ident name → value_of_global heap name ≡ Some old → number_of old ≡ None → enters_value heap hosts HintNumber old ≡ false
+      → in_change op gives_new (name_in t) n fs vs heap hosts beats steps out ≡ rest control.Throw n fs (object_value (length heap) ∷ vs) (heap ++ error_object built.TypeErrorPrototype ∷ []) hosts beats steps out
+  unfolding in_change rest
+  change_throws op gives_new t name old e f g h =
+      ap (λ t. running (changing op gives_new (name_in t)) n fs vs heap hosts beats steps out) e
+      ∙ (read_bound n fs vs heap hosts beats steps out name (k op gives_new) old f
+      ∙ number_throws n fs vs heap hosts beats steps out old (changed_from op gives_new (Some name)) g h)
+
   pub change_asks : (op : PostfixOp) (gives_new : Bool) (t : Expr) → in_change op gives_new (name_in (expr t)) n fs vs heap hosts beats steps out ≡ rest (control.Unbuilt (unbuilt.Change op gives_new t)) n fs vs heap hosts beats steps out
   unfolding in_change rest
   change_asks op gives_new t = refl
@@ -259,10 +266,10 @@ pub ruleset assign_laws = (assign_out, assign_on)
 
 pub ruleset assign_with_laws = (with_out, with_bound, with_unbound)
 
-pub ruleset store_with_laws = (v_store_with, v_store_stops, v_store_asks)
+pub ruleset store_with_laws = (v_store_with, v_store_stops, v_store_throws, v_store_asks)
 
 pub ruleset postfix_laws = (postfix_out, postfix_on)
 
-pub ruleset change_laws = (change_none, change_unbound, change_goes, change_stops, change_asks, holds_one)
+pub ruleset change_laws = (change_none, change_unbound, change_goes, change_stops, change_throws, change_asks, holds_one)
 
 pub ruleset changed_laws = (changed_goes, changed_stops)

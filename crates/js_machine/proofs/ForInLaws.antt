@@ -27,7 +27,8 @@ use Rattle.js_machine.specs.declared.frame.Unbuilt.TheVariants as unbuilt
 use Rattle.js_machine.specs.declared.hosts.HostCall.{HostCall}
 use Rattle.js_machine.specs.Asks.{Program, AnExpr, ATurn, Begin, Stop, Tick, Visible}
 use Rattle.js_machine.specs.Built.{is_target}
-use Rattle.js_machine.specs.Conversions.{to_name}
+use Rattle.js_machine.specs.Conversions.{HintString, to_name}
+use Rattle.js_machine.specs.Converted.{enters_value}
 use Rattle.exceptions_core.specs.declared.completion.Frame.TheVariants as frames
 use Rattle.js_machine.specs.Frames.{at_frame, done, on_value}
 use Rattle.js_machine.specs.Globals.{name_in}
@@ -43,6 +44,7 @@ use Rattle.js_machine.specs.Stacks.{top, below}
 use Rattle.js_machine.specs.State.{is_length, object_value}
 use Rattle.js_machine.specs.Statements.{statement}
 use Rattle.js_machine.specs.Visiting.{before_visits, for_in_begun, from_next, is_there, named_turn, next_visit, on_base, on_key, visit_based, visit_begun, visit_on, visiting, visits_from, visits_left, visits_on, with_visits, without_visits}
+use Rattle.js_machine.proofs.ConversionLaws.{text_throws}
 use Rattle.js_machine.proofs.MemberLaws.{base_goes, base_throws, text_read}
 use Rattle.js_machine.proofs.NameLaws.{put_bad, put_ok}
 use Rattle.js_machine.proofs.StepLaws.{none, step}
@@ -472,6 +474,13 @@ module _ (n : ℕ) (fs : List Frame) (vs : List Value) (heap : Heap) (hosts : Li
       ∙ (ap (λ p. running p n fs (key_stack left) heap hosts beats steps out) (text_read (top vs) x (λ x. if is_reserved x then Stop ReservedName else on_name (top (below vs)) left s x) (sym (ap text_of l) ∙ t))
       ∙ sym (ap (λ base. running (if is_reserved x then Stop ReservedName else on_name base left s x) n fs (key_stack left) heap hosts beats steps out) k))
 
+  pub key_throws : (left : ℕ) (s : Stmt) (base key : Value) → base ≡ top (below vs) → key ≡ top vs → is_base base ≡ true → text_of key ≡ None → enters_value heap hosts HintString key ≡ false
+      → in_value (frame.VisitKey left s) n fs vs heap hosts beats steps out ≡ rest control.Throw n fs (object_value (length heap) ∷ without_visits left (below (below (below vs)))) (heap ++ error_object built.TypeErrorPrototype ∷ []) hosts beats steps out
+  unfolding in_value rest
+  key_throws left s base key k l h t g =
+      ap (λ p. running p n fs (key_stack left) heap hosts beats steps out) (base_goes (top (below vs)) (to_name (top vs) (on_name (top (below vs)) left s)) (sym (ap is_base k) ∙ h))
+      ∙ text_throws n fs (key_stack left) heap hosts beats steps out (top vs) (λ x. if is_reserved x then Stop ReservedName else on_name (top (below vs)) left s x) (sym (ap text_of l) ∙ t) (sym (ap (enters_value heap hosts HintString) l) ∙ g)
+
   pub key_asks : (left : ℕ) (s : Stmt) (ws : List Value) → top ws ≡ top vs → top (below ws) ≡ top (below vs) → below (below ws) ≡ below (below vs)
       → in_value (frame.VisitKey left s) n fs vs heap hosts beats steps out ≡ rest (control.Unbuilt unbuilt.Give) n (frame.VisitKey left s ∷ fs) ws heap hosts beats steps out
   unfolding in_value rest
@@ -576,7 +585,7 @@ pub ruleset visit_laws = (visit_none, visit_var, visit_other, visit_out, visit_n
 
 pub ruleset base_laws = (base_none, base_var, base_index, base_other, base_bad, base_dot)
 
-pub ruleset key_laws = (key_bad, key_named, key_asks)
+pub ruleset key_laws = (key_bad, key_named, key_throws, key_asks)
 
 pub ruleset name_laws = (name_stops, name_used)
 

@@ -16,6 +16,7 @@ pub mod StepLaws
 pub mod NameLaws
 pub mod AtOnceLaws
 pub mod ThrowLaws
+pub mod ConversionLaws
 pub mod AssignmentLaws
 pub mod UnaryLaws
 pub mod HostLaws

@@ -30,7 +30,8 @@ use Rattle.js_machine.specs.declared.frame.End.TheVariants as end
 use Rattle.js_machine.specs.declared.frame.Unbuilt.TheVariants as unbuilt
 use Rattle.js_machine.specs.declared.hosts.HostCall.{HostCall}
 use Rattle.js_machine.specs.Asks.{Program, AnExpr, Begin, Has, Stop, Tick}
-use Rattle.js_machine.specs.Conversions.{or_stop, primitive_text, to_name, to_object, to_text}
+use Rattle.js_machine.specs.Conversions.{HintNumber, HintString, or_stop, primitive_text, to_name, to_object, to_text}
+use Rattle.js_machine.specs.Converted.{enters_operated, enters_value}
 use Rattle.js_machine.specs.Expressions.{expression}
 use Rattle.js_machine.specs.Frames.{done, gives, on_value, value_of}
 use Rattle.js_machine.specs.Globals.{change_of, no_names, type_told}
@@ -47,6 +48,7 @@ use Rattle.js_machine.specs.Stacks.{top, below}
 use Rattle.js_machine.specs.State.{object_value, value_read}
 use Rattle.js_machine.specs.Unary.{delete_on, one}
 use Rattle.js_machine.proofs.AssignmentLaws.{number_read}
+use Rattle.js_machine.proofs.ConversionLaws.{number_throws, operator_throws, text_throws}
 use Rattle.js_machine.proofs.NameLaws.{at_no_name, put_bad, put_ok}
 use Rattle.js_machine.proofs.Operating.{operator_gives, operator_stops}
 use Rattle.js_machine.proofs.StepLaws.{none, step}
@@ -373,6 +375,13 @@ module _ (n : ℕ) (fs : List Frame) (vs : List Value) (heap : Heap) (hosts : Li
       ∙ (ap (λ p. running p n fs (below (below vs)) heap hosts beats steps out) (text_read (top vs) name (named (expr e) (top (below vs))) (sym (ap text_of l) ∙ t))
       ∙ sym (ap (λ b. running (named (expr e) b name) n fs (below (below vs)) heap hosts beats steps out) k))
 
+  pub key_throws : (e : Expr) (base key : Value) → base ≡ top (below vs) → key ≡ top vs → is_base base ≡ true → text_of key ≡ None → enters_value heap hosts HintString key ≡ false
+      → in_value (frame.Key e) n fs vs heap hosts beats steps out ≡ rest control.Throw n fs (object_value (length heap) ∷ below (below vs)) (heap ++ error_object built.TypeErrorPrototype ∷ []) hosts beats steps out
+  unfolding in_value rest
+  key_throws e base key k l h t g =
+      ap (λ p. running p n fs (below (below vs)) heap hosts beats steps out) (base_goes (top (below vs)) (to_name (top vs) (with_member (expr e) (top (below vs)))) (sym (ap is_base k) ∙ h))
+      ∙ text_throws n fs (below (below vs)) heap hosts beats steps out (top vs) (named (expr e) (top (below vs))) (sym (ap text_of l) ∙ t) (sym (ap (enters_value heap hosts HintString) l) ∙ g)
+
   pub key_asks : (e : Expr) (ws : List Value) → top ws ≡ top vs → top (below ws) ≡ top (below vs) → below (below ws) ≡ below (below vs)
       → in_value (frame.Key e) n fs vs heap hosts beats steps out ≡ rest (control.Unbuilt unbuilt.Give) n (frame.Key e ∷ fs) ws heap hosts beats steps out
   unfolding in_value rest
@@ -459,6 +468,11 @@ module _ (n : ℕ) (fs : List Frame) (vs : List Value) (heap : Heap) (hosts : Li
   unfolding in_value rest
   v_put_stops op reason ws e = operator_stops out.world (due out.world n) (pop out.world (due out.world n) (stack fs stack_below)) (stack fs stack_below) (state_of heap hosts beats steps out) op (top (below vs)) (top vs) with_result reason e
 
+  pub v_put_throws : (op : BinaryOp) → operated op (top (below vs)) (top vs) ≡ None → enters_operated heap hosts op (top (below vs)) (top vs) ≡ false
+      → in_value (frame.PutWith op) n fs vs heap hosts beats steps out ≡ rest control.Throw n fs (object_value (length heap) ∷ below (below (below (below vs)))) (heap ++ error_object built.TypeErrorPrototype ∷ []) hosts beats steps out
+  unfolding in_value rest
+  v_put_throws op h e = operator_throws n fs stack_below heap hosts beats steps out op (top (below vs)) (top vs) with_result h e
+
   pub v_put_asks : (op : BinaryOp) (ws : List Value) → top ws ≡ top vs → top (below ws) ≡ top (below vs) → below (below ws) ≡ below (below vs)
       → in_value (frame.PutWith op) n fs vs heap hosts beats steps out ≡ rest (control.Unbuilt unbuilt.Give) n (frame.PutWith op ∷ fs) ws heap hosts beats steps out
   unfolding in_value rest
@@ -496,6 +510,11 @@ module _ (n : ℕ) (fs : List Frame) (vs : List Value) (heap : Heap) (hosts : Li
       → in_number op gives_new base name old n fs vs heap hosts beats steps out ≡ rest (control.End (end.Stopped reason)) n fs vs heap hosts beats steps out
   unfolding in_number rest
   number_stops op gives_new base old name reason e = ap (λ p. running p n fs vs heap hosts beats steps out) (number_read old (Err reason) (changed_to op gives_new base name) e)
+
+  pub number_raises : (op : PostfixOp) (gives_new : Bool) (base old : Value) (name : Name) → number_of old ≡ None → enters_value heap hosts HintNumber old ≡ false
+      → in_number op gives_new base name old n fs vs heap hosts beats steps out ≡ rest control.Throw n fs (object_value (length heap) ∷ vs) (heap ++ error_object built.TypeErrorPrototype ∷ []) hosts beats steps out
+  unfolding in_number rest
+  number_raises op gives_new base old name h e = number_throws n fs vs heap hosts beats steps out old (changed_to op gives_new base name) h e
 
   pub number_asks : (op : PostfixOp) (gives_new : Bool) (base old : Value) (name : Name)
       → in_number op gives_new base name old n fs vs heap hosts beats steps out ≡ rest (control.Unbuilt unbuilt.Give) n (frame.Changed op gives_new ∷ fs) (old ∷ value.Str name ∷ base ∷ vs) heap hosts beats steps out
@@ -538,6 +557,13 @@ module _ (n : ℕ) (fs : List Frame) (vs : List Value) (heap : Heap) (hosts : Li
       sym (ap (λ w. running (operate op.In (top (below vs)) w gives) n fs (below (below vs)) heap hosts beats steps out) e)
       ∙ ap (λ p. running p n fs (below (below vs)) heap hosts beats steps out) (text_read (top (below vs)) name (has_named o.0) (sym (ap text_of f) ∙ t))
 
+  pub in_throws : (v : Value) (o : ObjectId) → value.Object o ≡ top vs → v ≡ top (below vs) → text_of v ≡ None → enters_value heap hosts HintString v ≡ false
+      → in_value frame.In n fs vs heap hosts beats steps out ≡ rest control.Throw n fs (object_value (length heap) ∷ below (below vs)) (heap ++ error_object built.TypeErrorPrototype ∷ []) hosts beats steps out
+  unfolding in_value rest
+  in_throws v o e f t h =
+      sym (ap (λ w. running (operate op.In (top (below vs)) w gives) n fs (below (below vs)) heap hosts beats steps out) e)
+      ∙ text_throws n fs (below (below vs)) heap hosts beats steps out (top (below vs)) (has_named o.0) (sym (ap text_of f) ∙ t) (sym (ap (enters_value heap hosts HintString) f) ∙ h)
+
   pub in_asks : (ws : List Value) → top ws ≡ top vs → top (below ws) ≡ top (below vs) → below (below ws) ≡ below (below vs)
       → in_value frame.In n fs vs heap hosts beats steps out ≡ rest (control.Unbuilt unbuilt.Give) n (frame.In ∷ fs) ws heap hosts beats steps out
   unfolding in_value rest
@@ -562,18 +588,18 @@ pub ruleset target_laws = (target_out, target_on)
 
 pub ruleset based_laws = (base_bad, base_dot, base_index, base_lost)
 
-pub ruleset keyed_laws = (key_bad, key_named, key_asks)
+pub ruleset keyed_laws = (key_bad, key_named, key_throws, key_asks)
 
 pub ruleset name_laws = (name_stops, name_used)
 
 pub ruleset used_laws = (m_dot, m_index, m_put, m_put_with, m_postfix, m_increment, m_decrement, m_type, m_delete, m_done)
 
-pub ruleset put_with_laws = (v_put_with, v_put_stops, v_put_asks)
+pub ruleset put_with_laws = (v_put_with, v_put_stops, v_put_throws, v_put_asks)
 
-pub ruleset number_laws = (number_goes, number_stops, number_asks)
+pub ruleset number_laws = (number_goes, number_stops, number_raises, number_asks)
 
 pub ruleset changed_laws = (changed_goes, changed_stops)
 
-pub ruleset in_laws = (in_bad, in_object, in_asks)
+pub ruleset in_laws = (in_bad, in_object, in_throws, in_asks)
 
 pub ruleset has_laws = (has_stops, has_told)

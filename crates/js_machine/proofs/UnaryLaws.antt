@@ -1,5 +1,5 @@
 -- What is left of a run in unary operators.
-use Rattle.std.proofs.Common.{◌≡◌, ℕ, ◌+◌, ◌-◌, Bool, true, false, List, [], ◌∷◌, Option, Some, None, Ok, Err, refl, sym, ap, ◌∙◌}
+use Rattle.std.proofs.Common.{◌≡◌, ℕ, ◌+◌, ◌-◌, Bool, true, false, List, [], ◌∷◌, ◌++◌, length, Option, Some, None, Ok, Err, refl, sym, ap, ◌∙◌}
 use Rattle.std.specs.Prelude.{is_some, map, not}
 use Rattle.std.specs.Str.{chars}
 use Rattle.dl_text.specs.Utf16.{utf16}
@@ -30,6 +30,8 @@ use Rattle.js_machine.specs.Asks.{Program, AnExpr, Tick}
 use Rattle.js_machine.specs.Built.{is_name, is_plain_prefix}
 use Rattle.js_machine.specs.Members.{is_member}
 use Rattle.js_machine.specs.Calls.{reference}
+use Rattle.js_machine.specs.Conversions.{HintNumber}
+use Rattle.js_machine.specs.Converted.{enters_value}
 use Rattle.js_machine.specs.Expressions.{expression}
 use Rattle.js_machine.specs.Frames.{gives, value_of}
 use Rattle.js_machine.specs.Globals.{changing, is_callable, is_callable_by, name_in, prefix_of, type_told, unary, unary_of, value_of_global}
@@ -37,13 +39,15 @@ use Rattle.js_machine.specs.Globals.{host_body, number_by}
 use Rattle.js_machine.specs.Kinds.{is_function}
 use Rattle.js_machine.specs.Operated.{Operated}
 use Rattle.js_machine.specs.Page.{script_env}
-use Rattle.js_machine.specs.References.{Reference, NoReference, global_object, if_global, or_undefined, resolve}
+use Rattle.object_heap.specs.declared.built_in.BuiltIn.TheVariants as built
+use Rattle.js_machine.specs.References.{error_object, Reference, NoReference, global_object, if_global, or_undefined, resolve}
 use Rattle.js_machine.specs.Rest.{Outside, in_change, in_expr, in_type, in_value, rest, running, state_of}
 use Rattle.js_machine.specs.Stacks.{top, below}
-use Rattle.js_machine.specs.State.{Callee, function_callee, kind_by, kind_in, kind_of}
+use Rattle.js_machine.specs.State.{Callee, object_value, function_callee, kind_by, kind_in, kind_of}
 use Rattle.js_machine.specs.Unary.{delete_reference, type_of_reference}
 use Rattle.object_heap.specs.Changes.{can_delete, deleted}
 use Rattle.js_machine.proofs.AssignmentLaws.{named}
+use Rattle.js_machine.proofs.ConversionLaws.{unary_throws}
 use Rattle.js_machine.proofs.NameLaws.{is_met, is_not_met}
 use Rattle.js_machine.proofs.Operating.{GoesOn, goes_on, stops, asks, number_goes}
 use Rattle.js_machine.proofs.StepLaws.{none, step}
@@ -160,6 +164,11 @@ module _ (n : ℕ) (fs : List Frame) (vs : List Value) (heap : Heap) (hosts : Li
   v_unary_asks op ws e f =
       ap (λ v. running (unary op v) n fs (below vs) heap hosts beats steps out) (sym e)
       ∙ ap (λ us. running (unary op (top ws)) n fs us heap hosts beats steps out) (sym f)
+
+  pub v_unary_throws : (op : PrefixOp) → unary_of op (top vs) ≡ None → enters_value heap hosts HintNumber (top vs) ≡ false
+      → in_value (frame.Unary op) n fs vs heap hosts beats steps out ≡ rest control.Throw n fs (object_value (length heap) ∷ below vs) (heap ++ error_object built.TypeErrorPrototype ∷ []) hosts beats steps out
+  unfolding in_value rest
+  v_unary_throws op h e = unary_throws n fs (below vs) heap hosts beats steps out op (top vs) h e
 
   -- ---- `++` and `--` before a name
 
@@ -296,7 +305,7 @@ pub ruleset delete_laws = (delete_value, delete_out, delete_unbound, delete_boun
 
 pub ruleset prefix_laws = (in_void, in_plus, in_minus, in_bit_not, in_not)
 
-pub ruleset unary_laws = (v_unary, v_unary_stops, v_unary_asks)
+pub ruleset unary_laws = (v_unary, v_unary_stops, v_unary_throws, v_unary_asks)
 
 pub ruleset begin_change_laws = (change_out, change_on)
 

@@ -1,5 +1,5 @@
 -- What is left of a run where a frame takes the value of an expression.
-use Rattle.std.proofs.Common.{◌≡◌, ℕ, List, ◌∷◌, Some, true, false, refl, sym, ap, ◌∙◌}
+use Rattle.std.proofs.Common.{◌≡◌, ℕ, List, [], ◌∷◌, ◌++◌, length, Some, None, true, false, refl, sym, ap, ◌∙◌}
 use Rattle.std.specs.Prelude.{if◌then◌else◌}
 use Rattle.js_values.specs.declared.value.Value.{Value}
 use Rattle.js_values.specs.Values.{truth_of}
@@ -19,7 +19,12 @@ use Rattle.js_tree.specs.declared.tree.BinaryOp.{BinaryOp}
 use Rattle.js_tree.specs.declared.tree.BinaryOp.TheVariants as op
 use Rattle.std.specs.Prelude.{Ok, Err}
 use Rattle.js_values.specs.declared.reason.Reason.{Reason}
+use Rattle.js_machine.specs.Converted.{enters_operated}
 use Rattle.js_machine.specs.Operated.{operated}
+use Rattle.js_machine.specs.References.{error_object}
+use Rattle.js_machine.specs.State.{object_value}
+use Rattle.object_heap.specs.declared.built_in.BuiltIn.TheVariants as built
+use Rattle.js_machine.proofs.ConversionLaws.{operator_throws}
 use Rattle.js_machine.specs.Frames.{gives}
 use Rattle.js_machine.specs.Operators.{operate}
 use Rattle.js_machine.proofs.Operating.{operator_gives, operator_stops}
@@ -52,6 +57,11 @@ module _ (n : ℕ) (fs : List Frame) (vs : List Value) (heap : Heap) (hosts : Li
       ap (λ w. run out.world n (operate op (top (below vs)) w gives) (stack fs (below (below vs))) (state_of heap hosts beats steps out)) (sym e)
       ∙ (ap (λ v. run out.world n (operate op v (top ws) gives) (stack fs (below (below vs))) (state_of heap hosts beats steps out)) (sym f)
       ∙ ap (λ us. run out.world n (operate op (top (below ws)) (top ws) gives) (stack fs us) (state_of heap hosts beats steps out)) (sym g))
+
+  pub v_right_throws : (op : BinaryOp) → operated op (top (below vs)) (top vs) ≡ None → enters_operated heap hosts op (top (below vs)) (top vs) ≡ false
+      → in_value (frame.Right op) n fs vs heap hosts beats steps out ≡ rest control.Throw n fs (object_value (length heap) ∷ below (below vs)) (heap ++ error_object built.TypeErrorPrototype ∷ []) hosts beats steps out
+  unfolding in_value rest
+  v_right_throws op h e = operator_throws n fs (below (below vs)) heap hosts beats steps out op (top (below vs)) (top vs) gives h e
 
   pub v_and_true : (right : Expr) → truth_of (top vs) ≡ true → in_value (frame.And right) n fs vs heap hosts beats steps out ≡ rest (control.Expr right) n fs (below vs) heap hosts beats steps out
   unfolding in_value rest
@@ -99,7 +109,7 @@ module _ (n : ℕ) (fs : List Frame) (vs : List Value) (heap : Heap) (hosts : Li
 
 pub ruleset left_laws = (v_left, v_left_in)
 
-pub ruleset right_laws = (v_right, v_right_stops, v_right_asks)
+pub ruleset right_laws = (v_right, v_right_stops, v_right_throws, v_right_asks)
 
 pub ruleset and_laws = (v_and_true, v_and_false)
 

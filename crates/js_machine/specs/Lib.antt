@@ -29,6 +29,7 @@ pub mod HostCalls
 pub mod Members
 pub mod Literals
 pub mod Visiting
+pub mod Converted
 pub mod Built
 pub mod NotBuilt
 pub mod Rest

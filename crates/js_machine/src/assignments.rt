@@ -135,6 +135,9 @@ impl Machine {
             }
             Some(Err(reason)) => Ok(Control::End(End::Stopped(reason))),
             None => {
+                if !self.enters_operated(op, &left, &right)? {
+                    return self.throw_error(BuiltIn::TypeErrorPrototype);
+                }
                 self.values.push(left)?;
                 self.values.push(right)?;
                 self.frames.push(Frame::StoreWith(op, target))?;
@@ -185,6 +188,9 @@ impl Machine {
             Some(Ok(before)) => self.change_from(op, gives_new, target, before),
             Some(Err(reason)) => Ok(Control::End(End::Stopped(reason))),
             None => {
+                if !self.enters_for_number(&old)? {
+                    return self.throw_error(BuiltIn::TypeErrorPrototype);
+                }
                 let target = target.share()?;
                 Ok(Control::Unbuilt(Unbuilt::Change(op, gives_new, target)))
             }

@@ -204,6 +204,9 @@ impl Machine {
         match text(self.alloc, &key)? {
             Some(x) => self.use_visit_key(left, s, &base, &x),
             None => {
+                if !self.enters_for_text(&key)? {
+                    return self.throw_at_visit(1, left, BuiltIn::TypeErrorPrototype);
+                }
                 self.values.push(base)?;
                 self.values.push(key)?;
                 self.wait(Frame::VisitKey(left, s), Control::Unbuilt(Unbuilt::Give))

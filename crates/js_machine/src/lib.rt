@@ -12,6 +12,7 @@ mod at_once;
 mod begin;
 mod calls;
 mod clock;
+mod conversions;
 mod expressions;
 mod flow;
 mod for_in;

@@ -232,7 +232,7 @@ pub(crate) fn is_base(v: &Value) -> bool
 impl Machine {
     /// The property of an object.
     #[tactic(auto, using(crate::proofs::MemberLaws::property_laws))]
-    fn property_of(&self, o: ObjectId, name: &Units) -> Result<Value, AllocError>
+    pub(crate) fn property_of(&self, o: ObjectId, name: &Units) -> Result<Value, AllocError>
         ensures { IfOk result (λ v. v ≡ spec.property_of self.now.heap o.0 name.now) }
     {
         match self.heap.get(o, name) {
@@ -339,6 +339,9 @@ impl Machine {
         match text(self.alloc, &key)? {
             Some(name) => self.use_name(&e, base, name),
             None => {
+                if !self.enters_for_text(&key)? {
+                    return self.throw_error(BuiltIn::TypeErrorPrototype);
+                }
                 self.values.push(base)?;
                 self.values.push(key)?;
                 self.wait(Frame::Key(e), Control::Unbuilt(Unbuilt::Give))
@@ -471,6 +474,9 @@ impl Machine {
         match text(self.alloc, &left)? {
             Some(name) => self.answer_has(o, &name),
             None => {
+                if !self.enters_for_text(&left)? {
+                    return self.throw_error(BuiltIn::TypeErrorPrototype);
+                }
                 self.values.push(left)?;
                 self.values.push(Value::Object(o))?;
                 self.wait(Frame::In, Control::Unbuilt(Unbuilt::Give))

@@ -154,7 +154,7 @@ impl Machine {
     }
 
     /// Whether a value can be called.
-    fn is_callable(&self, v: &Value) -> bool
+    pub(crate) fn is_callable(&self, v: &Value) -> bool
         ensures { result ≡ is_callable self.now.heap self.now.hosts v.now }
     {
         match v {
@@ -202,6 +202,9 @@ impl Machine {
             Some(Ok(v)) => self.answer(v),
             Some(Err(reason)) => Ok(Control::End(End::Stopped(reason))),
             None => {
+                if !self.enters_for_number(&v)? {
+                    return self.throw_error(BuiltIn::TypeErrorPrototype);
+                }
                 self.values.push(v)?;
                 self.frames.push(Frame::Unary(op))?;
                 Ok(Control::Unbuilt(Unbuilt::Give))

@@ -11,6 +11,7 @@ use crate::operators::operate;
 use js_code::ExprCode;
 use js_tree::BinaryOp;
 use js_values::to_boolean;
+use object_heap::BuiltIn;
 use std::alloc::AllocError;
 
 impl Machine {
@@ -43,6 +44,9 @@ impl Machine {
             Some(Ok(v)) => self.answer(v),
             Some(Err(reason)) => Ok(Control::End(End::Stopped(reason))),
             None => {
+                if !self.enters_operated(op, &left, &right)? {
+                    return self.throw_error(BuiltIn::TypeErrorPrototype);
+                }
                 self.values.push(left)?;
                 self.values.push(right)?;
                 self.frames.push(Frame::Right(op))?;

@@ -157,6 +157,11 @@ impl Machine {
             }
             Some(Err(reason)) => Ok(Control::End(End::Stopped(reason))),
             None => {
+                if !self.enters_operated(op, &left, &right)? {
+                    let _name = self.values.pop();
+                    let _base = self.values.pop();
+                    return self.throw_error(BuiltIn::TypeErrorPrototype);
+                }
                 self.values.push(left)?;
                 self.values.push(right)?;
                 self.frames.push(Frame::PutWith(op))?;
@@ -220,6 +225,9 @@ impl Machine {
             Some(Ok(before)) => self.write_changed(op, gives_new, &base, &name, before),
             Some(Err(reason)) => Ok(Control::End(End::Stopped(reason))),
             None => {
+                if !self.enters_for_number(&old)? {
+                    return self.throw_error(BuiltIn::TypeErrorPrototype);
+                }
                 self.values.push(base)?;
                 self.values.push(Value::Str(name))?;
                 self.values.push(old)?;

@@ -16,3 +16,4 @@ pub mod Nodes
 pub mod Operands
 pub mod Asking
 pub mod Members
+pub mod Converting

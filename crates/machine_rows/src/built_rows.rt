@@ -24,12 +24,11 @@ ghost use Rattle.js_machine.specs.Built.{is_begun, is_built_expression, is_built
 ghost use Rattle.js_machine.specs.Built.{is_built_statement, is_dot, is_name, is_plain_jump};
 ghost use Rattle.js_machine.specs.Built.{is_plain_prefix, is_target};
 ghost use Rattle.js_machine.specs.Members.{is_member};
-ghost use Rattle.js_machine.specs.NotBuilt.{IsNotBuilt, LooksInside, StopsRightly};
-ghost use Rattle.js_machine.specs.NotBuilt.{goes_on_built, has_functions, holds_object};
-ghost use Rattle.js_machine.specs.NotBuilt.{names_object};
-ghost use Rattle.machine_rows.specs.Alone.{more_objects, with_x};
+ghost use Rattle.js_machine.specs.NotBuilt.{IsNotBuilt, StopsRightly, goes_on_built};
+ghost use Rattle.js_machine.specs.NotBuilt.{has_functions, holds_entered, names_entered};
+ghost use Rattle.machine_rows.specs.Alone.{hosts, more_objects, with_x};
+ghost use Rattle.machine_rows.specs.Converting.{Looks};
 ghost use Rattle.machine_rows.specs.Nodes as node;
-ghost use Rattle.machine_rows.specs.Operations.{kinds};
 ghost use Rattle.machine_rows.specs.Samples.{nothing, null, object, text, whole, yes};
 ghost use Rattle.machine_rows.specs.Writing.{a, to_string, x};
 
@@ -83,92 +82,107 @@ pub fn built_statements()
 {}
 
 /// An operator looks into an object where the newest value, or with its left operand that below, is
-/// one, by its frame. The left operand is the one below.
+/// one whose conversion enters a function, by its frame. The left operand is the one below.
 pub fn frames_that_look_inside()
-    ensures no_frame { LooksInside [] (object 70 ∷ object 70 ∷ []) → ⊥ }
-    ensures right { LooksInside (frame.Right op.Add ∷ []) (object 70 ∷ whole 1 ∷ []) }
-    ensures left { LooksInside (frame.Right op.Add ∷ []) (whole 1 ∷ object 70 ∷ []) }
-    ensures by_its_operator { LooksInside (frame.Right op.Equal ∷ []) (object 71 ∷ object 70 ∷ [])
+    ensures no_frame { Looks [] (object 67 ∷ object 67 ∷ []) → ⊥ }
+    ensures right { Looks (frame.Right op.Add ∷ []) (object 67 ∷ whole 1 ∷ []) }
+    ensures left { Looks (frame.Right op.Add ∷ []) (whole 1 ∷ object 67 ∷ []) }
+    ensures by_its_operator { Looks (frame.Right op.Equal ∷ []) (object 71 ∷ object 67 ∷ [])
         → ⊥ }
-    ensures no_objects { LooksInside (frame.Right op.Add ∷ []) (whole 1 ∷ text a ∷ []) → ⊥ }
-    ensures not_deeper { LooksInside (frame.Right op.Add ∷ []) (whole 1 ∷ whole 1 ∷ object 70 ∷ [])
+    ensures no_objects { Looks (frame.Right op.Add ∷ []) (whole 1 ∷ text a ∷ []) → ⊥ }
+    ensures not_deeper { Looks (frame.Right op.Add ∷ []) (whole 1 ∷ whole 1 ∷ object 67 ∷ [])
         → ⊥ }
-    ensures left_operand_first { LooksInside (frame.Right op.Subtract ∷ [])
-        (object 70 ∷ text (codes "1.5") ∷ []) → ⊥ }
-    ensures tests { LooksInside (frame.Right op.In ∷ []) (whole 1 ∷ whole 1 ∷ []) }
-    ensures stores { (e : Expr) → LooksInside (frame.StoreWith op.Add e ∷ [])
-        (object 70 ∷ whole 1 ∷ []) }
-    ensures stores_left { (e : Expr) → LooksInside (frame.StoreWith op.Add e ∷ [])
-        (whole 1 ∷ object 70 ∷ []) }
-    ensures stores_plainly { (e : Expr) → LooksInside (frame.StoreWith op.Add e ∷ [])
+    ensures left_operand_first { Looks (frame.Right op.Subtract ∷ [])
+        (object 67 ∷ text (codes "1.5") ∷ []) → ⊥ }
+    ensures tests { Looks (frame.Right op.In ∷ []) (whole 1 ∷ whole 1 ∷ []) }
+    ensures stores { (e : Expr) → Looks (frame.StoreWith op.Add e ∷ [])
+        (object 67 ∷ whole 1 ∷ []) }
+    ensures stores_left { (e : Expr) → Looks (frame.StoreWith op.Add e ∷ [])
+        (whole 1 ∷ object 67 ∷ []) }
+    ensures stores_plainly { (e : Expr) → Looks (frame.StoreWith op.Add e ∷ [])
         (whole 1 ∷ text a ∷ []) → ⊥ }
-    ensures stores_in_order { (e : Expr) → LooksInside (frame.StoreWith op.Subtract e ∷ [])
-        (object 70 ∷ text (codes "1.5") ∷ []) → ⊥ }
-    ensures unary { LooksInside (frame.Unary prefix.Plus ∷ []) (object 70 ∷ []) }
-    ensures newest { LooksInside (frame.Unary prefix.Plus ∷ []) (whole 1 ∷ object 70 ∷ []) → ⊥ }
-    ensures unary_of_all { LooksInside (frame.Unary prefix.Not ∷ []) (object 70 ∷ []) → ⊥ }
-    ensures key { (e : Expr) → LooksInside (frame.Key e ∷ []) (object 70 ∷ whole 1 ∷ []) }
-    ensures plain_key { (e : Expr) → LooksInside (frame.Key e ∷ []) (text a ∷ object 70 ∷ []) → ⊥ }
-    ensures visit_key { (s : Stmt) → LooksInside (frame.VisitKey 0 s ∷ [])
-        (object 70 ∷ whole 1 ∷ []) }
-    ensures plain_visit_key { (s : Stmt) → LooksInside (frame.VisitKey 0 s ∷ [])
-        (text a ∷ object 70 ∷ []) → ⊥ }
-    ensures puts { LooksInside (frame.PutWith op.Add ∷ []) (object 70 ∷ whole 1 ∷ []) }
-    ensures puts_left { LooksInside (frame.PutWith op.Add ∷ []) (whole 1 ∷ object 70 ∷ []) }
-    ensures puts_plainly { LooksInside (frame.PutWith op.Add ∷ [])
-        (whole 1 ∷ text a ∷ object 70 ∷ []) → ⊥ }
-    ensures changes { LooksInside (frame.Changed postfix.Increment true ∷ []) (object 70 ∷ []) }
-    ensures changes_plainly { LooksInside (frame.Changed postfix.Increment true ∷ [])
-        (text a ∷ object 70 ∷ []) → ⊥ }
-    ensures in_object { LooksInside (frame.In ∷ []) (object 70 ∷ object 70 ∷ []) }
-    ensures in_plainly { LooksInside (frame.In ∷ []) (object 70 ∷ text a ∷ []) → ⊥ }
-    ensures behind { LooksInside (frame.Do ∷ frame.Unary prefix.Plus ∷ []) (object 70 ∷ []) → ⊥ }
+    ensures stores_in_order { (e : Expr) → Looks (frame.StoreWith op.Subtract e ∷ [])
+        (object 67 ∷ text (codes "1.5") ∷ []) → ⊥ }
+    ensures unary { Looks (frame.Unary prefix.Plus ∷ []) (object 67 ∷ []) }
+    ensures newest { Looks (frame.Unary prefix.Plus ∷ []) (whole 1 ∷ object 67 ∷ []) → ⊥ }
+    ensures unary_of_all { Looks (frame.Unary prefix.Not ∷ []) (object 67 ∷ []) → ⊥ }
+    ensures key { (e : Expr) → Looks (frame.Key e ∷ []) (object 67 ∷ whole 1 ∷ []) }
+    ensures plain_key { (e : Expr) → Looks (frame.Key e ∷ []) (text a ∷ object 67 ∷ []) → ⊥ }
+    ensures visit_key { (s : Stmt) → Looks (frame.VisitKey 0 s ∷ [])
+        (object 67 ∷ whole 1 ∷ []) }
+    ensures plain_visit_key { (s : Stmt) → Looks (frame.VisitKey 0 s ∷ [])
+        (text a ∷ object 67 ∷ []) → ⊥ }
+    ensures visit_key_throws { (s : Stmt) → Looks (frame.VisitKey 0 s ∷ [])
+        (object 70 ∷ object 67 ∷ []) → ⊥ }
+    ensures no_visit_base { (s : Stmt) → Looks (frame.VisitKey 0 s ∷ [])
+        (object 67 ∷ null ∷ []) → ⊥ }
+    ensures puts { Looks (frame.PutWith op.Add ∷ []) (object 67 ∷ whole 1 ∷ []) }
+    ensures puts_left { Looks (frame.PutWith op.Add ∷ []) (whole 1 ∷ object 67 ∷ []) }
+    ensures puts_plainly { Looks (frame.PutWith op.Add ∷ [])
+        (whole 1 ∷ text a ∷ object 67 ∷ []) → ⊥ }
+    ensures changes { Looks (frame.Changed postfix.Increment true ∷ []) (object 67 ∷ []) }
+    ensures changes_plainly { Looks (frame.Changed postfix.Increment true ∷ [])
+        (text a ∷ object 67 ∷ []) → ⊥ }
+    ensures in_object { Looks (frame.In ∷ []) (object 67 ∷ object 67 ∷ []) }
+    ensures in_plainly { Looks (frame.In ∷ []) (object 67 ∷ text a ∷ []) → ⊥ }
+    ensures right_throws { Looks (frame.Right op.Add ∷ []) (whole 1 ∷ object 70 ∷ []) → ⊥ }
+    ensures right_operand { Looks (frame.Right op.Greater ∷ []) (object 70 ∷ object 67 ∷ []) → ⊥ }
+    ensures store_throws { (e : Expr) → Looks (frame.StoreWith op.Add e ∷ [])
+        (whole 1 ∷ object 70 ∷ []) → ⊥ }
+    ensures unary_throws { Looks (frame.Unary prefix.Plus ∷ []) (object 70 ∷ []) → ⊥ }
+    ensures key_throws { (e : Expr) → Looks (frame.Key e ∷ []) (object 70 ∷ object 67 ∷ []) → ⊥ }
+    ensures no_base { (e : Expr) → Looks (frame.Key e ∷ []) (object 67 ∷ null ∷ []) → ⊥ }
+    ensures put_throws { Looks (frame.PutWith op.Add ∷ []) (whole 1 ∷ object 70 ∷ []) → ⊥ }
+    ensures change_throws { Looks (frame.Changed postfix.Increment true ∷ []) (object 70 ∷ [])
+        → ⊥ }
+    ensures in_throws { Looks (frame.In ∷ []) (object 67 ∷ object 70 ∷ []) → ⊥ }
+    ensures in_no_object { Looks (frame.In ∷ []) (whole 1 ∷ object 67 ∷ []) → ⊥ }
+    ensures behind { Looks (frame.Do ∷ frame.Unary prefix.Plus ∷ []) (object 67 ∷ []) → ⊥ }
 {}
 
 /// What waits for other values looks into none.
 pub fn frames_that_look_at_no_object()
-    ensures left { (e : Expr) (vs : List Value) → LooksInside (frame.Left op.Add e ∷ []) vs → ⊥ }
-    ensures and { (e : Expr) (vs : List Value) → LooksInside (frame.And e ∷ []) vs → ⊥ }
-    ensures or { (e : Expr) (vs : List Value) → LooksInside (frame.Or e ∷ []) vs → ⊥ }
-    ensures comma { (e : Expr) (vs : List Value) → LooksInside (frame.Comma e ∷ []) vs → ⊥ }
-    ensures cond { (e f : Expr) (vs : List Value) → LooksInside (frame.Cond e f ∷ []) vs → ⊥ }
-    ensures does { (vs : List Value) → LooksInside (frame.Do ∷ []) vs → ⊥ }
+    ensures left { (e : Expr) (vs : List Value) → Looks (frame.Left op.Add e ∷ []) vs → ⊥ }
+    ensures and { (e : Expr) (vs : List Value) → Looks (frame.And e ∷ []) vs → ⊥ }
+    ensures or { (e : Expr) (vs : List Value) → Looks (frame.Or e ∷ []) vs → ⊥ }
+    ensures comma { (e : Expr) (vs : List Value) → Looks (frame.Comma e ∷ []) vs → ⊥ }
+    ensures cond { (e f : Expr) (vs : List Value) → Looks (frame.Cond e f ∷ []) vs → ⊥ }
+    ensures does { (vs : List Value) → Looks (frame.Do ∷ []) vs → ⊥ }
     ensures next { (ss : List Stmt) (i : ℕ) (vs : List Value)
-        → LooksInside (frame.Next ss i ∷ []) vs → ⊥ }
-    ensures branches { (s : Stmt) (vs : List Value) → LooksInside (frame.If s ∷ []) vs → ⊥ }
-    ensures test { (s : Stmt) (vs : List Value) → LooksInside (frame.Test s ∷ []) vs → ⊥ }
-    ensures turn { (s : Stmt) (vs : List Value) → LooksInside (frame.Turn s ∷ []) vs → ⊥ }
-    ensures again { (s : Stmt) (vs : List Value) → LooksInside (frame.Again s ∷ []) vs → ⊥ }
-    ensures store { (e : Expr) (vs : List Value) → LooksInside (frame.Store e ∷ []) vs → ⊥ }
-    ensures type_of { (vs : List Value) → LooksInside (frame.Type ∷ []) vs → ⊥ }
+        → Looks (frame.Next ss i ∷ []) vs → ⊥ }
+    ensures branches { (s : Stmt) (vs : List Value) → Looks (frame.If s ∷ []) vs → ⊥ }
+    ensures test { (s : Stmt) (vs : List Value) → Looks (frame.Test s ∷ []) vs → ⊥ }
+    ensures turn { (s : Stmt) (vs : List Value) → Looks (frame.Turn s ∷ []) vs → ⊥ }
+    ensures again { (s : Stmt) (vs : List Value) → Looks (frame.Again s ∷ []) vs → ⊥ }
+    ensures store { (e : Expr) (vs : List Value) → Looks (frame.Store e ∷ []) vs → ⊥ }
+    ensures type_of { (vs : List Value) → Looks (frame.Type ∷ []) vs → ⊥ }
     ensures var { (i : ℕ) (items : List VarItem) (vs : List Value)
-        → LooksInside (frame.Var i items ∷ []) vs → ⊥ }
+        → Looks (frame.Var i items ∷ []) vs → ⊥ }
     ensures for_var { (i : ℕ) (items : List VarItem) (s : Stmt) (vs : List Value)
-        → LooksInside (frame.ForVar i items s ∷ []) vs → ⊥ }
+        → Looks (frame.ForVar i items s ∷ []) vs → ⊥ }
     ensures callee { (e : Expr) (es : List Expr) (vs : List Value)
-        → LooksInside (frame.Callee e es ∷ []) vs → ⊥ }
+        → Looks (frame.Callee e es ∷ []) vs → ⊥ }
     ensures argument { (i : ℕ) (e : Expr) (es : List Expr) (vs : List Value)
-        → LooksInside (frame.Argument i e es ∷ []) vs → ⊥ }
-    ensures base { (e : Expr) (vs : List Value) → LooksInside (frame.Base e ∷ []) vs → ⊥ }
-    ensures put { (vs : List Value) → LooksInside (frame.Put ∷ []) vs → ⊥ }
-    ensures visits_from { (s : Stmt) (vs : List Value) → LooksInside (frame.VisitsFrom s ∷ []) vs
-        → ⊥ }
-    ensures visits { (s : Stmt) (vs : List Value) → LooksInside (frame.Visits s ∷ []) vs → ⊥ }
-    ensures visit { (i : ℕ) (s : Stmt) (vs : List Value) → LooksInside (frame.Visit i s ∷ []) vs
-        → ⊥ }
+        → Looks (frame.Argument i e es ∷ []) vs → ⊥ }
+    ensures base { (e : Expr) (vs : List Value) → Looks (frame.Base e ∷ []) vs → ⊥ }
+    ensures put { (vs : List Value) → Looks (frame.Put ∷ []) vs → ⊥ }
+    ensures visits_from { (s : Stmt) (vs : List Value) → Looks (frame.VisitsFrom s ∷ []) vs → ⊥ }
+    ensures visits { (s : Stmt) (vs : List Value) → Looks (frame.Visits s ∷ []) vs → ⊥ }
+    ensures visit { (i : ℕ) (s : Stmt) (vs : List Value) → Looks (frame.Visit i s ∷ []) vs → ⊥ }
     ensures visit_base { (i : ℕ) (s : Stmt) (vs : List Value)
-        → LooksInside (frame.VisitBase i s ∷ []) vs → ⊥ }
+        → Looks (frame.VisitBase i s ∷ []) vs → ⊥ }
 {}
 
-/// Names that are not built, as they hold an object that is to be converted.
+/// Names that are not built, as they hold an object whose conversion enters a function.
 pub fn unbuilt_names()
-    ensures holds { map holds_object (None ∷ map Some kinds)
-        ≡ replicate 6 false ++ true ∷ [] }
-    ensures names { map (λ v. names_object (with_x v) (Some x)) kinds ≡ replicate 5 false ++ true
-        ∷ [] }
-    ensures unbound { names_object heap_at_start (Some x) ≡ false }
-    ensures inherited { names_object heap_at_start (Some to_string) ≡ true }
-    ensures no_name { names_object (with_x (object 2)) None ≡ false }
+    ensures holds { map (holds_entered more_objects hosts) (None ∷ map Some (nothing ∷ null ∷ yes
+        ∷ whole 1 ∷ text a ∷ object 67 ∷ object 70 ∷ []))
+        ≡ replicate 6 false ++ true ∷ false ∷ [] }
+    ensures names { map (λ v. names_entered (with_x v) hosts (Some x)) (whole 1 ∷ object 2
+        ∷ object 70 ∷ []) ≡ false ∷ true ∷ false ∷ [] }
+    ensures unbound { names_entered heap_at_start hosts (Some x) ≡ false }
+    ensures inherited { names_entered heap_at_start hosts (Some to_string) ≡ true }
+    ensures no_name { names_entered (with_x (object 2)) hosts None ≡ false }
 {}
 
 /// Where the machine says that something is not built, it is not.
@@ -186,9 +200,15 @@ pub fn unbuilt_places()
     ensures built_body { (s : Stmt) (m : Machine) → view.stmt s ≡ tree.Empty
         → IsNotBuilt (unbuilt.Body s) m → ⊥ }
     ensures give { (m : Machine) → IsNotBuilt unbuilt.Give (record m {
+      heap = more_objects;
+      frames = frame.Unary prefix.Plus ∷ [];
+      values = object 67 ∷ [];
+    }) }
+    ensures thrown_give { (m : Machine) → IsNotBuilt unbuilt.Give (record m {
+      heap = more_objects;
       frames = frame.Unary prefix.Plus ∷ [];
       values = object 70 ∷ [];
-    }) }
+    }) → ⊥ }
     ensures built_give { (m : Machine) → IsNotBuilt unbuilt.Give (record m {
       frames = frame.Unary prefix.Plus ∷ [];
       values = whole 5 ∷ [];
@@ -211,6 +231,9 @@ pub fn unbuilt_places()
     ensures built_change { (e : Expr) (m : Machine) → view.expr e ≡ node.name
         → IsNotBuilt (unbuilt.Change postfix.Increment true e)
         (record m { heap = with_x (whole 2) }) → ⊥ }
+    ensures thrown_change { (e : Expr) (m : Machine) → view.expr e ≡ node.name
+        → IsNotBuilt (unbuilt.Change postfix.Increment true e)
+        (record m { heap = with_x (object 70) }) → ⊥ }
     ensures enter { (m : Machine) → IsNotBuilt (unbuilt.Enter 0 (record { 0 = 13 }))
         (record m { heap = more_objects }) }
     ensures built_enter { (m : Machine) → IsNotBuilt (unbuilt.Enter 13 (record { 0 = 65 }))

@@ -5,6 +5,7 @@
 #![tactic(auto)]
 
 mod built_rows;
+mod conversion_rows;
 mod expression_rows;
 mod function_rows;
 mod global_rows;
@@ -23,6 +24,7 @@ pub use built_rows::{
     built_expressions, built_statements, frames_that_look_at_no_object, frames_that_look_inside,
     other_controls, unbuilt_names, unbuilt_places,
 };
+pub use conversion_rows::{entered_methods, entered_objects, operands_converted_first};
 pub use expression_rows::{
     accesses_and_calls, choices_and_assignments, primary_expressions, unary_operators,
 };
